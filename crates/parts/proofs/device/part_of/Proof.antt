@@ -1,0 +1,24 @@
+-- `parts::device::part_of` meets its contract: the constant table is the table of the definition, entry by entry.
+-- By computation: both are the same eight records, looked up at the same place.
+use borrow.Author.Needs.{needs}
+use borrow.Author.Tests.{lt-ltb, le-ltb}
+use Rattle.parts.specs.Device.{partOf, parts}
+use Rattle.parts.proofs.device.part_of.Statement.{statement}
+use Rattle.parts.proofs.device.part_of.Tie as tie
+
+mul-t15 : tie.Need-mul-t15
+mul-t15 c = search needs
+
+array-copy-out-t6 : tie.Need-array-copy-out-t6
+array-copy-out-t6 c = search needs
+
+returns : tie.Need-returns
+unfolding partOf parts
+returns c = simp (lt-ltb _ _ (c .before .if1 .taken))
+
+returns-2 : tie.Need-returns-2
+unfolding partOf
+returns-2 c = simp (le-ltb _ _ (c .if1 .left))
+
+pub part-of-spec : {M : Type 1} → statement M
+part-of-spec = tie.close (tie.spec mul-t15 array-copy-out-t6 returns returns-2)

@@ -1,0 +1,33 @@
+-- `parts::frame::frame_number` meets its contract: the search over the part's columns is the definition's lookup.
+-- By the law of the lookup in each of the two cases of the part.
+use mathlib.Core.Path.{_∙_, sym}
+use borrow.Author.Needs.{needs}
+use Rattle.parts.specs.Table.{known-limits}
+use Rattle.parts.specs.Address.{block, major, minor}
+use Rattle.parts.specs.Frames.{number-known, number-unknown}
+use Rattle.parts.proofs.frame.frame_number.Statement.{statement}
+use Rattle.parts.proofs.frame.frame_number.Tie as tie
+
+part-of-requires : tie.Need-part-of-requires
+part-of-requires c κs = search needs
+
+enum-known-p : tie.Need-enum-known-p
+enum-known-p c = search needs
+
+number-in-requires : tie.Need-number-in-requires
+number-in-requires c κs = known-limits _ _ (sym (c .before .before .before .part-of .ensures) ∙ c .before .p .given .1)
+
+enum-told : tie.Need-enum-told
+enum-told c = search needs
+
+returns : tie.Need-returns
+unfolding block major minor
+returns c =
+    c .number-in .ensures
+    ∙ number-known _ _ (c .before .before .before .before .part-of .ensures) _ (c .before .before .before .before .before .args .address) (c .before .before .p .given .1)
+
+returns-2 : tie.Need-returns-2
+returns-2 c = number-unknown _ _ (c .before .before .part-of .ensures) _ (c .enum-told .given .1)
+
+pub frame-number-spec : {M : Type 1} → statement M
+frame-number-spec = tie.close (tie.spec part-of-requires enum-known-p number-in-requires enum-told returns returns-2)

@@ -1,0 +1,71 @@
+-- The eight parts and the figures that follow from R, C and B.
+-- Sources: 01, "The eight parts"; 001, Tables 7 and 8.
+use mathlib.Core.Path.{_≡_, _∙_, sym}
+use Prim.Native.Nat.{ℕ, _+_, _*_}
+use mathlib.Core.List.{List, [], _∷_}
+use mathlib.Core.Bool.{Bool, cond}
+use lib.Dec.{ltb}
+use lib.ListN.{getD}
+use Rattle.parts.specs.declared.device.Part.{Part}
+use Rattle.parts.specs.declared.device.PartAnswer.{PartAnswer}
+use Rattle.parts.specs.declared.device.PartAnswer.the-variants as PartAnswer
+use Rattle.parts.specs.declared.device.Figure.{Figure}
+use Rattle.parts.specs.declared.device.Figure.the-variants as Figure
+
+abbrev pub part : ℕ → ℕ → ℕ → ℕ → Part
+part i r c b = record { idcode = i; rows = r; columns = c; «ram_columns» = b }
+
+-- 01: the table of IDCODE, R, C and B by device number; the IDCODEs are 001's, Table 8
+unfoldable pub parts : List Part
+parts =
+    part 0x0140D093 16 12 1
+    ∷ part 0x01414093 24 20 2
+    ∷ part 0x0141C093 32 28 2
+    ∷ part 0x11428093 48 40 2
+    ∷ part 0x01434093 64 52 2
+    ∷ part 0x01440093 80 64 2
+    ∷ part 0x01448093 96 72 4
+    ∷ part 0x01450093 104 80 4
+    ∷ []
+
+-- 01, refusal 21: device number above 7
+unfoldable pub partOf : ℕ → PartAnswer
+partOf d = cond (ltb d 8) (PartAnswer.Known (getD parts d (part 0 0 0 0))) PartAnswer.UnknownDevice
+
+-- a figure of a part, for the part that a device number names
+unfoldable pub figureOf : (Part → ℕ) → PartAnswer → Figure
+figureOf f (PartAnswer.Known p) = Figure.Value (f p)
+figureOf f PartAnswer.UnknownDevice = Figure.UnknownDevice
+
+abbrev pub figure : (Part → ℕ) → ℕ → Figure
+figure f d = figureOf f (partOf d)
+
+-- 01's number of an answer, 0 where nothing is refused
+unfoldable pub figureRefusal : Figure → ℕ
+figureRefusal (Figure.Value v) = 0
+figureRefusal Figure.UnknownDevice = 21
+
+-- the figure where the part is known, and where it is not
+pub figure-known : (f : Part → ℕ) (d : ℕ) (q : PartAnswer) (p : Part) → q ≡ partOf d → q ≡ PartAnswer.Known p → Figure.Value (f p) ≡ figure f d
+unfolding figureOf
+figure-known f d q p e k = rw (← e, k)
+
+pub figure-unknown : (f : Part → ℕ) (d : ℕ) (q : PartAnswer) → q ≡ partOf d → q ≡ PartAnswer.UnknownDevice → Figure.UnknownDevice ≡ figure f d
+unfolding figureOf
+figure-unknown f d q e k = rw (← e, k)
+
+-- 001, Table 8
+unfoldable pub idcodeOf : Part → ℕ
+idcodeOf p = p .idcode
+
+-- 01: "Frame length L = 2R + 5 words"
+unfoldable pub frameLength : Part → ℕ
+frameLength p = 2 * p .rows + 5
+
+-- 01: "Frames F = 45 + 19C + 95B"
+unfoldable pub frameCount : Part → ℕ
+frameCount p = 45 + 19 * p .columns + 95 * p .«ram_columns»
+
+-- 01: "Memory is 4·L·F bytes"
+unfoldable pub memoryLength : Part → ℕ
+memoryLength p = 4 * frameLength p * frameCount p

@@ -1,0 +1,9 @@
+pub mod Device
+pub mod Table
+pub mod Columns
+pub mod Address
+pub mod Lookup
+pub mod Runs
+pub mod RoundTrip
+pub mod Frames
+pub mod Examples

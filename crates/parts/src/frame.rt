@@ -1,0 +1,195 @@
+// Frame numbers and frame addresses, each from the other. Number to address goes by subtraction over the columns: no
+// division and no remainder, so that a board without a divide instruction can do it.
+use crate::device::Part;
+use crate::device::PartAnswer;
+use crate::device::part_of;
+ghost use mathlib.Core.Path.{_≡_};
+ghost use mathlib.Core.List.{List, _++_};
+ghost use Prim.Native.Nat.{ℕ, _+_, _≤_, _<_};
+ghost use lib.ListN.{getD};
+ghost use Rattle.parts.specs.Table.{Limits};
+ghost use Rattle.parts.specs.Columns.{Column, run, runs, columns, runColumns};
+ghost use Rattle.parts.specs.Address.{address, addressIn, numberIn, frameAddress, frameNumber};
+ghost use Rattle.parts.specs.Runs.{Placed, resumed, inRun};
+
+// The frame address of a frame number.
+pub enum AddressAnswer {
+    Address(u32),
+    UnknownDevice,
+    OutsidePart,
+}
+
+// The frame number of a frame address.
+pub enum NumberAnswer {
+    Number(u32),
+    NoFrame,
+    UnknownDevice,
+}
+
+// A run of neighbouring columns that have the same number of minors, from a major on.
+struct Run {
+    block: u32,
+    major: u32,
+    columns: u32,
+    minors: u32,
+}
+
+// A search of a run: the address found, or the number that is left to look for past it.
+enum Search {
+    Found(u32),
+    Past(u32),
+}
+
+// The runs of a part's columns, in the order in which its frames are numbered.
+fn run_at(part: Part, i: u32) -> Run
+    requires { ⌜ (i < 6) × Limits part ⌝ }
+    ensures { λ r. ⌜ r ≡ getD (runs part) i (run 0 0 0 0) ⌝ }
+{
+    match i {
+        0 => Run {
+            block: 0,
+            major: 0,
+            columns: 1,
+            minors: 3,
+        },
+        1 => Run {
+            block: 0,
+            major: 1,
+            columns: 1,
+            minors: 2,
+        },
+        2 => Run {
+            block: 0,
+            major: 2,
+            columns: part.columns + 2,
+            minors: 19,
+        },
+        3 => Run {
+            block: 0,
+            major: part.columns + 4,
+            columns: 1,
+            minors: 2,
+        },
+        4 => Run {
+            block: 1,
+            major: 0,
+            columns: part.ram_columns,
+            minors: 76,
+        },
+        _ => Run {
+            block: 2,
+            major: 0,
+            columns: part.ram_columns,
+            minors: 19,
+        },
+    }
+}
+
+// The address with these fields.
+fn address_of(block: u32, major: u32, minor: u32) -> u32
+    requires { ⌜ (block < 4) × (major < 256) × (minor < 256) ⌝ }
+    ensures { λ r. ⌜ r ≡ address block major minor ⌝ }
+{
+    block * 33554432 + major * 131072 + minor * 512
+}
+
+// Looks for a number, counted from the run's first frame, column by column.
+fn search_run(run: Run, number: u32) -> Search
+    requires { ⌜ Placed run ⌝ }
+    ensures { λ r. ⌜ ((rest : List Column) → addressIn (runColumns run ++ rest) number ≡ resumed r rest) ⌝ }
+{
+    let mut left = number;
+    let mut i: u32 = 0;
+    while i < run.columns {
+        if left < run.minors {
+            return Search::Found(address_of(run.block, run.major + i, left));
+        }
+        left -= run.minors;
+        i += 1;
+    }
+    Search::Past(left)
+}
+
+// Looks for a number run by run.
+fn address_in(part: Part, number: u32) -> AddressAnswer
+    requires { ⌜ Limits part ⌝ }
+    ensures { λ r. ⌜ r ≡ addressIn (columns part) number ⌝ }
+{
+    let mut left = number;
+    let mut i: u32 = 0;
+    while i < 6 {
+        let s = search_run(run_at(part, i), left);
+        match s {
+            Search::Found(a) => {
+                return AddressAnswer::Address(a);
+            }
+            Search::Past(n) => {
+                left = n;
+            }
+        }
+        i += 1;
+    }
+    AddressAnswer::OutsidePart
+}
+
+// The frame is in the run.
+fn in_run(run: Run, block: u32, major: u32, minor: u32) -> bool
+    requires { ⌜ Placed run ⌝ }
+    ensures { λ r. ⌜ r ≡ inRun run block major minor ⌝ }
+{
+    if run.block != block {
+        return false;
+    }
+    if major < run.major {
+        return false;
+    }
+    if run.major + run.columns <= major {
+        return false;
+    }
+    minor < run.minors
+}
+
+// Looks for a frame run by run; first is the number of the run's first frame.
+fn number_in(part: Part, block: u32, major: u32, minor: u32) -> NumberAnswer
+    requires { ⌜ Limits part ⌝ }
+    ensures { λ r. ⌜ r ≡ numberIn (columns part) 0 block major minor ⌝ }
+{
+    let mut first: u32 = 0;
+    let mut i: u32 = 0;
+    while i < 6 {
+        let run = run_at(part, i);
+        if in_run(run, block, major, minor) {
+            return NumberAnswer::Number(first + (major - run.major) * run.minors + minor);
+        }
+        first += run.columns * run.minors;
+        i += 1;
+    }
+    NumberAnswer::NoFrame
+}
+
+// The frame address of a frame number.
+pub fn frame_address(device: u32, number: u32) -> AddressAnswer
+    ensures { λ r. ⌜ r ≡ frameAddress device number ⌝ }
+{
+    let p = part_of(device);
+    match p {
+        PartAnswer::Known(part) => address_in(part, number),
+        PartAnswer::UnknownDevice => AddressAnswer::UnknownDevice,
+    }
+}
+
+// The frame number of a frame address; bits outside block, major and minor are ignored.
+pub fn frame_number(device: u32, address: u32) -> NumberAnswer
+    ensures { λ r. ⌜ r ≡ frameNumber device address ⌝ }
+{
+    let p = part_of(device);
+    match p {
+        PartAnswer::Known(part) => {
+            let block = address / 33554432 % 4;
+            let major = address / 131072 % 256;
+            let minor = address / 512 % 256;
+            number_in(part, block, major, minor)
+        }
+        PartAnswer::UnknownDevice => NumberAnswer::UnknownDevice,
+    }
+}
