@@ -1,0 +1,5 @@
+pub mod Register
+pub mod Examples
+pub mod Bounds
+pub mod Linear
+pub mod CheckWord
