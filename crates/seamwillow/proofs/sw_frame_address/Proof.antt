@@ -1,0 +1,35 @@
+-- `seamwillow::sw_frame_address` meets its contract: each answer has its number and what is written for it.
+-- By computation, once the answer is known.
+use mathlib.Core.Path.{_≡_, _∙_, refl, sym}
+use borrow.Author.Needs.{needs}
+use Rattle.parts.specs.Address.{addressRefusal}
+use Rattle.seamwillow.specs.Told.{addressTold}
+use Rattle.seamwillow.proofs.sw_frame_address.Statement.{statement}
+use Rattle.seamwillow.proofs.sw_frame_address.Tie as tie
+
+frame-address-requires : tie.Need-frame-address-requires
+frame-address-requires c κs = search needs
+
+enum-known-answer : tie.Need-enum-known-answer
+enum-known-answer c = search needs
+
+enum-told : tie.Need-enum-told
+enum-told c = search needs
+
+enum-told-2 : tie.Need-enum-told-2
+enum-told-2 c = search needs
+
+returns : tie.Need-returns
+unfolding addressRefusal addressTold
+returns c = rw (sym (c .before .before .before .frame-address .ensures) ∙ c .before .answer .given .1) (refl, refl)
+
+returns-2 : tie.Need-returns-2
+unfolding addressRefusal addressTold
+returns-2 c = rw (sym (c .before .before .frame-address .ensures) ∙ c .enum-told .given .1) (refl, refl)
+
+returns-3 : tie.Need-returns-3
+unfolding addressRefusal addressTold
+returns-3 c = rw (sym (c .before .before .frame-address .ensures) ∙ c .enum-told2 .given .1) (refl, refl)
+
+pub sw-frame-address-spec : {M : Type 1} → statement M
+sw-frame-address-spec = tie.close (tie.spec frame-address-requires enum-known-answer enum-told enum-told-2 returns returns-2 returns-3)

@@ -1,0 +1,120 @@
+// Prints document 01's worked examples for the parts and the CRC, as the proved library answers them.
+use libc::STDOUT_FILENO;
+use parts::device::Figure;
+use parts::frame::AddressAnswer;
+use parts::frame::NumberAnswer;
+
+fn text(s: &[u8]) {
+    io::write_all(STDOUT_FILENO, s);
+}
+
+fn decimal(n: u32) {
+    io::print_decimal(STDOUT_FILENO, n as u64);
+}
+
+fn hex(n: u32) {
+    io::print_hex(STDOUT_FILENO, n as u64, 8);
+}
+
+fn print_figure(label: &[u8], f: Figure) {
+    text(label);
+    match f {
+        Figure::Value(v) => decimal(v),
+        Figure::UnknownDevice => text(b"refused 21"),
+    }
+}
+
+fn print_idcode(f: Figure) {
+    match f {
+        Figure::Value(v) => hex(v),
+        Figure::UnknownDevice => text(b"refused 21"),
+    }
+}
+
+// A row of 01's table.
+fn print_part(device: u32) {
+    text(b"device ");
+    decimal(device);
+    text(b" idcode ");
+    print_idcode(parts::device::idcode(device));
+    print_figure(b" words ", parts::device::frame_length(device));
+    print_figure(b" frames ", parts::device::frame_count(device));
+    print_figure(b" bytes ", parts::device::memory_length(device));
+    text(b"\n");
+}
+
+fn print_number(device: u32, address: u32) {
+    let answer = parts::frame::frame_number(device, address);
+    match answer {
+        NumberAnswer::Number(n) => decimal(n),
+        NumberAnswer::NoFrame => text(b"none"),
+        NumberAnswer::UnknownDevice => text(b"refused 21"),
+    }
+}
+
+// A frame number, its address, and the number that the address gives.
+fn print_frame(device: u32, number: u32) {
+    text(b"device ");
+    decimal(device);
+    text(b" frame ");
+    decimal(number);
+    text(b" address ");
+    let answer = parts::frame::frame_address(device, number);
+    match answer {
+        AddressAnswer::Address(a) => {
+            hex(a);
+            text(b" frame ");
+            print_number(device, a);
+        }
+        AddressAnswer::UnknownDevice => text(b"refused 21"),
+        AddressAnswer::OutsidePart => text(b"refused 34"),
+    }
+    text(b"\n");
+}
+
+fn print_parts() {
+    print_part(0);
+    print_part(1);
+    print_part(2);
+    print_part(3);
+    print_part(4);
+    print_part(5);
+    print_part(6);
+    print_part(7);
+    print_part(8);
+}
+
+// 01's ten frames of the XC3S400, and the refusals around them.
+fn print_frames() {
+    print_frame(2, 0);
+    print_frame(2, 3);
+    print_frame(2, 6);
+    print_frame(2, 8);
+    print_frame(2, 139);
+    print_frame(2, 176);
+    print_frame(2, 576);
+    print_frame(2, 577);
+    print_frame(2, 579);
+    print_frame(2, 766);
+    print_frame(2, 767);
+    print_frame(8, 0);
+}
+
+// 01's CRC example, and that its check word passes.
+fn print_crc() {
+    let crc = crc16::feed(0, 0, 0x80000000);
+    let word = crc16::check_word(crc);
+    text(b"crc ");
+    hex(crc);
+    text(b" check word ");
+    hex(word);
+    text(b" crc ");
+    hex(crc16::feed(crc, 0, word));
+    text(b"\n");
+}
+
+fn main() {
+    print_parts();
+    print_frames();
+    print_crc();
+}

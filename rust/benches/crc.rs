@@ -1,0 +1,89 @@
+//! The proved CRC, called a word at a time through the C interface, against a plain table loop.
+
+use seamwillow_tests::ffi;
+use seamwillow_tests::random::Random;
+use std::array;
+use std::hint::black_box;
+use std::time::{Duration, Instant};
+
+const WORDS: usize = 1_000_000;
+const ROUNDS: usize = 15;
+/// Nearly every word of a stream is frame data.
+const FDRI: u32 = 2;
+
+/// The strongest plain form: the register is kept bit-reflected, so that data shifts in from the
+/// low end; four steps of a 256-entry table take a word's bytes, low byte first, and one step of a
+/// 32-entry table takes the five address bits.
+struct Tables {
+    bytes: [u16; 256],
+    addresses: [u16; 32],
+}
+
+/// The reflected register after `bits` zero bits.
+fn shifted(register: u16, bits: u32) -> u16 {
+    (0..bits).fold(register, |register, _| {
+        (register >> 1) ^ (if register & 1 == 1 { 0xA001 } else { 0 })
+    })
+}
+
+impl Tables {
+    fn new() -> Self {
+        Self {
+            bytes: array::from_fn(|index| shifted(index as u16, 8)),
+            addresses: array::from_fn(|index| shifted(index as u16, 5)),
+        }
+    }
+
+    fn feed(&self, register: u16, reg: u32, word: u32) -> u16 {
+        let after_word = word.to_le_bytes().iter().fold(register, |register, byte| {
+            (register >> 8) ^ self.bytes[usize::from(register as u8 ^ byte)]
+        });
+        let index = (u32::from(after_word) ^ reg) & 31;
+        (after_word >> 5) ^ self.addresses[index as usize]
+    }
+
+    fn run(&self, words: &[u32]) -> u32 {
+        let register = words
+            .iter()
+            .fold(0, |register, &word| self.feed(register, FDRI, word));
+        u32::from(register.reverse_bits())
+    }
+}
+
+fn run_proved(words: &[u32]) -> u32 {
+    words.iter().fold(0, |crc, &word| ffi::crc(crc, FDRI, word))
+}
+
+fn timed(run: impl FnOnce() -> u32) -> (Duration, u32) {
+    let start = Instant::now();
+    let crc = black_box(run());
+    (start.elapsed(), crc)
+}
+
+fn report(name: &str, time: Duration) {
+    let words = WORDS as f64 / time.as_secs_f64();
+    println!(
+        "{name:<12} {words:>12.0} words/s {:>9.1} MB/s",
+        words * 4.0 / 1e6
+    );
+}
+
+fn main() {
+    let mut random = Random::new(3);
+    let words: Vec<u32> = (0..WORDS).map(|_| random.next_u32()).collect();
+    let tables = black_box(Tables::new());
+    let mut best_proved = Duration::MAX;
+    let mut best_table = Duration::MAX;
+    // The rounds take turns, so that other load on the machine meets both alike.
+    for _ in 0..ROUNDS {
+        let (proved_time, proved_crc) = timed(|| run_proved(black_box(&words)));
+        let (table_time, table_crc) = timed(|| tables.run(black_box(&words)));
+        assert_eq!(proved_crc, table_crc);
+        best_proved = best_proved.min(proved_time);
+        best_table = best_table.min(table_time);
+    }
+    report("sw_crc", best_proved);
+    report("table loop", best_table);
+    let ratio = best_table.as_secs_f64() / best_proved.as_secs_f64();
+    println!("sw_crc runs at {ratio:.2} times the speed of the table loop");
+}
