@@ -3,3 +3,4 @@ pub mod Examples
 pub mod Bounds
 pub mod Linear
 pub mod CheckWord
+pub mod Nibbles

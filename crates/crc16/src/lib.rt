@@ -1,38 +1,39 @@
 // The CRC register of the configuration logic: feed a data word, and the word that passes the check.
 ghost use mathlib.Core.Path.{_≡_};
-ghost use Prim.Native.Nat.{_<_};
-ghost use Rattle.crc16.specs.Register.{shift, shiftIn, feed, checkWord};
+ghost use Prim.Native.Nat.{_<_, _%_};
+ghost use Rattle.crc16.specs.Register.{feed, checkWord};
+ghost use Rattle.crc16.specs.Nibbles.{part, entries};
 
-// One bit into the register.
-fn shift(crc: u32, bit: u32) -> u32
-    requires { ⌜ bit < 2 ⌝ }
-    ensures { λ r. ⌜ r ≡ shift crc bit ⌝ }
-{
-    let input = (bit + crc / 32768 % 2) % 2;
-    let low = input + 2 * (crc % 2) + 4 * ((input + crc / 2 % 2) % 2);
-    low + 8 * (crc / 4 % 4096) + 32768 * ((input + crc / 16384 % 2) % 2)
-}
+mod table; // table.rt: what each nibble adds
 
-// The lowest bits of a number into the register, bit 0 first.
-fn shift_in(count: u32, crc: u32, bits: u32) -> u32
-    ensures { λ r. ⌜ r ≡ shiftIn count crc bits ⌝ }
+use table::TABLE;
+
+// What the low half-word of x adds: group 0 as the register, 1 and 2 as the word's low and high half, 3 as the address.
+fn part(table: &[u16; 256], group: usize, x: u32) -> u16
+    requires { ⌜ group < 4 ⌝ }
+    requires { ⌜ now table ≡ entries 256 0 ⌝ }
+    ensures { λ r. ⌜ r ≡ part group (x % 65536) ⌝ }
 {
-    let mut register = crc;
-    let mut rest = bits;
-    let mut left: u32 = count;
-    while left > 0 {
-        register = shift(register, rest % 2);
-        rest = rest / 2;
-        left -= 1;
-    }
-    register
+    let n = x as usize;
+    let row = 64 * group;
+    let a = table[row + n % 16];
+    let b = table[row + 16 + n / 16 % 16];
+    let c = table[row + 32 + n / 256 % 16];
+    let d = table[row + 48 + n / 4096 % 16];
+    d ^ (c ^ (b ^ a))
 }
 
 // The register after a data word for a register address (its low five bits); only the low sixteen bits of crc count.
 pub fn feed(crc: u32, address: u32, word: u32) -> u32
     ensures { λ r. ⌜ r ≡ feed crc address word ⌝ }
 {
-    shift_in(5, shift_in(32, crc, word), address)
+    // a constant is copied wherever it is named: one copy serves the four groups
+    let table = TABLE;
+    let register = part(&table, 0, crc);
+    let low = part(&table, 1, word);
+    let high = part(&table, 2, word / 65536);
+    let to = part(&table, 3, address);
+    (register ^ (to ^ (high ^ low))) as u32
 }
 
 // The word that passes the check: the register's bits in the order in which they leave it, bit 15 first.

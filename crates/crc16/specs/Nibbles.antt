@@ -1,0 +1,21 @@
+-- What each nibble that is fed adds to the register, as a table of 256 entries.
+-- The register is linear over xor, so `feed` is the xor of the entries that its input picks (proofs/Nibbles.antt).
+use mathlib.Core.List.{List, [], _∷_}
+use Prim.Native.Nat.{ℕ, zero, suc, _*_, _/_, _%_, _^_}
+use Rattle.crc16.specs.Register.{feed}
+
+-- what a half-word adds: 0 as the register, 1 and 2 as the word's low and high half, 3 as the address
+unfoldable pub part : ℕ → ℕ → ℕ
+part zero h = feed h 0 0
+part (suc zero) h = feed 0 0 h
+part (suc (suc zero)) h = feed 0 0 (h * 65536)
+part (suc (suc (suc g))) h = feed 0 h 0
+
+-- four groups, of four places, of sixteen nibbles
+unfoldable pub entry : ℕ → ℕ
+entry k = part (k / 64) (k % 16 * 16 ^ (k / 16 % 4))
+
+-- n entries from entry i on
+unfoldable pub entries : ℕ → ℕ → List ℕ
+entries zero i = []
+entries (suc n) i = entry i ∷ entries n (suc i)
