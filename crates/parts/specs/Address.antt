@@ -62,12 +62,12 @@ abbrev pub frameNumber : ℕ → ℕ → NumberAnswer
 frameNumber d a = numberFor (partOf d) a
 
 -- 01's number of an answer, 0 where nothing is refused
-unfoldable pub addressRefusal : AddressAnswer → ℕ
+abbrev pub addressRefusal : AddressAnswer → ℕ
 addressRefusal (AddressAnswer.Address a) = 0
 addressRefusal AddressAnswer.UnknownDevice = 21
 addressRefusal AddressAnswer.OutsidePart = 34
 
-unfoldable pub numberRefusal : NumberAnswer → ℕ
+abbrev pub numberRefusal : NumberAnswer → ℕ
 numberRefusal (NumberAnswer.Number n) = 0
 numberRefusal NumberAnswer.NoFrame = 0
 numberRefusal NumberAnswer.UnknownDevice = 21

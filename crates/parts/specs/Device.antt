@@ -41,7 +41,11 @@ abbrev pub figure : (Part → ℕ) → ℕ → Figure
 figure f d = figureOf f (partOf d)
 
 -- 01's number of an answer, 0 where nothing is refused
-unfoldable pub figureRefusal : Figure → ℕ
+abbrev pub partRefusal : PartAnswer → ℕ
+partRefusal (PartAnswer.Known p) = 0
+partRefusal PartAnswer.UnknownDevice = 21
+
+abbrev pub figureRefusal : Figure → ℕ
 figureRefusal (Figure.Value v) = 0
 figureRefusal Figure.UnknownDevice = 21
 

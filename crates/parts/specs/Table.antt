@@ -63,7 +63,7 @@ limits p t =
     let first = and-eq-true-iff (leb (p .rows) 104) (leb (p .columns) 80) .0 (both .0) in
     record { rows = leb-true _ _ (first .0); columns = leb-true _ _ (first .1); ram-columns = leb-true _ _ (both .1) }
 
--- 01: the XC3S5000 has the longest frames and the most of them
+-- the figures of the XC3S5000 bound them all
 pub length-limit : (p : Part) → Limits p → frameLength p ≤ 213
 unfolding frameLength
 length-limit p l = omega arith

@@ -1,6 +1,6 @@
 // The table of the eight parts, and what follows from it by device number.
 ghost use mathlib.Core.Path.{_≡_};
-ghost use Rattle.parts.specs.Device.{partOf, figure, idcodeOf, frameLength, frameCount, memoryLength};
+ghost use Rattle.parts.specs.Device.{partOf, figure, idcodeOf, frameLength, frameCount, memoryLength, partRefusal, figureRefusal};
 ghost use Rattle.parts.specs.Table.{Limits};
 
 // What tells one part from another: R, C and B of document 01 are rows, columns and ram_columns.
@@ -144,5 +144,25 @@ pub fn memory_length(device: u32) -> Figure
     match p {
         PartAnswer::Known(part) => Figure::Value(4 * length_of(part) * count_of(part)),
         PartAnswer::UnknownDevice => Figure::UnknownDevice,
+    }
+}
+
+// Document 01's number of an answer, 0 where nothing is refused.
+pub fn part_refusal(answer: PartAnswer) -> u32
+    ensures { λ r. ⌜ r ≡ partRefusal answer ⌝ }
+{
+    match answer {
+        PartAnswer::Known(_) => 0,
+        PartAnswer::UnknownDevice => 21,
+    }
+}
+
+// Document 01's number of an answer, 0 where nothing is refused.
+pub fn figure_refusal(answer: Figure) -> u32
+    ensures { λ r. ⌜ r ≡ figureRefusal answer ⌝ }
+{
+    match answer {
+        Figure::Value(_) => 0,
+        Figure::UnknownDevice => 21,
     }
 }

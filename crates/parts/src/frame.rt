@@ -9,7 +9,7 @@ ghost use Prim.Native.Nat.{ℕ, _+_, _≤_, _<_};
 ghost use lib.ListN.{getD};
 ghost use Rattle.parts.specs.Table.{Limits};
 ghost use Rattle.parts.specs.Columns.{Column, run, runs, columns, runColumns};
-ghost use Rattle.parts.specs.Address.{address, addressIn, numberIn, frameAddress, frameNumber};
+ghost use Rattle.parts.specs.Address.{address, addressIn, numberIn, frameAddress, frameNumber, addressRefusal, numberRefusal};
 ghost use Rattle.parts.specs.Runs.{Placed, resumed, inRun};
 
 // The frame address of a frame number.
@@ -191,5 +191,27 @@ pub fn frame_number(device: u32, address: u32) -> NumberAnswer
             number_in(part, block, major, minor)
         }
         PartAnswer::UnknownDevice => NumberAnswer::UnknownDevice,
+    }
+}
+
+// Document 01's number of an answer, 0 where nothing is refused.
+pub fn address_refusal(answer: AddressAnswer) -> u32
+    ensures { λ r. ⌜ r ≡ addressRefusal answer ⌝ }
+{
+    match answer {
+        AddressAnswer::Address(_) => 0,
+        AddressAnswer::UnknownDevice => 21,
+        AddressAnswer::OutsidePart => 34,
+    }
+}
+
+// Document 01's number of an answer, 0 where nothing is refused: an address of no frame is an answer.
+pub fn number_refusal(answer: NumberAnswer) -> u32
+    ensures { λ r. ⌜ r ≡ numberRefusal answer ⌝ }
+{
+    match answer {
+        NumberAnswer::Number(_) => 0,
+        NumberAnswer::NoFrame => 0,
+        NumberAnswer::UnknownDevice => 21,
     }
 }

@@ -16,18 +16,23 @@ fn hex(n: u32) {
     io::print_hex(STDOUT_FILENO, n as u64, 8);
 }
 
+fn refused(number: u32) {
+    text(b"refused ");
+    decimal(number);
+}
+
 fn print_figure(label: &[u8], f: Figure) {
     text(label);
     match f {
         Figure::Value(v) => decimal(v),
-        Figure::UnknownDevice => text(b"refused 21"),
+        Figure::UnknownDevice => refused(parts::device::figure_refusal(f)),
     }
 }
 
 fn print_idcode(f: Figure) {
     match f {
         Figure::Value(v) => hex(v),
-        Figure::UnknownDevice => text(b"refused 21"),
+        Figure::UnknownDevice => refused(parts::device::figure_refusal(f)),
     }
 }
 
@@ -48,7 +53,7 @@ fn print_number(device: u32, address: u32) {
     match answer {
         NumberAnswer::Number(n) => decimal(n),
         NumberAnswer::NoFrame => text(b"none"),
-        NumberAnswer::UnknownDevice => text(b"refused 21"),
+        NumberAnswer::UnknownDevice => refused(parts::frame::number_refusal(answer)),
     }
 }
 
@@ -66,8 +71,8 @@ fn print_frame(device: u32, number: u32) {
             text(b" frame ");
             print_number(device, a);
         }
-        AddressAnswer::UnknownDevice => text(b"refused 21"),
-        AddressAnswer::OutsidePart => text(b"refused 34"),
+        AddressAnswer::UnknownDevice => refused(parts::frame::address_refusal(answer)),
+        AddressAnswer::OutsidePart => refused(parts::frame::address_refusal(answer)),
     }
     text(b"\n");
 }
@@ -100,9 +105,8 @@ fn print_frames() {
     print_frame(8, 0);
 }
 
-// 01's CRC example, and that its check word passes.
-fn print_crc() {
-    let crc = crc16::feed(0, 0, 0x80000000);
+// A CRC value, its check word, and the register after that word is written to CRC.
+fn print_check(crc: u32) {
     let word = crc16::check_word(crc);
     text(b"crc ");
     hex(crc);
@@ -113,8 +117,18 @@ fn print_crc() {
     text(b"\n");
 }
 
+// 01's CRC example, and the check words of other values.
+fn print_checks() {
+    print_check(crc16::feed(0, 0, 0x80000000));
+    print_check(0);
+    print_check(1);
+    print_check(0x8000);
+    print_check(0xFFFF);
+    print_check(0x12345678);
+}
+
 fn main() {
     print_parts();
     print_frames();
-    print_crc();
+    print_checks();
 }

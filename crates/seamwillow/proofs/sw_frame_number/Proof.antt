@@ -2,7 +2,6 @@
 -- By computation, once the answer is known.
 use mathlib.Core.Path.{_≡_, _∙_, refl, sym}
 use borrow.Author.Needs.{needs}
-use Rattle.parts.specs.Address.{numberRefusal}
 use Rattle.seamwillow.specs.Told.{numberTold}
 use Rattle.seamwillow.proofs.sw_frame_number.Statement.{statement}
 use Rattle.seamwillow.proofs.sw_frame_number.Tie as tie
@@ -20,15 +19,15 @@ enum-told-2 : tie.Need-enum-told-2
 enum-told-2 c = search needs
 
 returns : tie.Need-returns
-unfolding numberRefusal numberTold
+unfolding numberTold
 returns c = rw (sym (c .before .before .before .frame-number .ensures) ∙ c .before .answer .given .1) (refl, refl)
 
 returns-2 : tie.Need-returns-2
-unfolding numberRefusal numberTold
+unfolding numberTold
 returns-2 c = rw (sym (c .before .before .frame-number .ensures) ∙ c .enum-told .given .1) (refl, refl)
 
 returns-3 : tie.Need-returns-3
-unfolding numberRefusal numberTold
+unfolding numberTold
 returns-3 c = rw (sym (c .before .before .frame-number .ensures) ∙ c .enum-told2 .given .1) (refl, refl)
 
 pub sw-frame-number-spec : {M : Type 1} → statement M
