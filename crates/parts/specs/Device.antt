@@ -49,6 +49,11 @@ abbrev pub figureRefusal : Figure → ℕ
 figureRefusal (Figure.Value v) = 0
 figureRefusal Figure.UnknownDevice = 21
 
+-- the number that a figure tells, 0 where it is refused
+unfoldable pub valueOf : Figure → ℕ
+valueOf (Figure.Value v) = v
+valueOf Figure.UnknownDevice = 0
+
 -- the figure where the part is known, and where it is not
 pub figure-known : (f : Part → ℕ) (d : ℕ) (q : PartAnswer) (p : Part) → q ≡ partOf d → q ≡ PartAnswer.Known p → Figure.Value (f p) ≡ figure f d
 unfolding figureOf

@@ -1,6 +1,6 @@
 // The table of the eight parts, and what follows from it by device number.
 ghost use mathlib.Core.Path.{_≡_};
-ghost use Rattle.parts.specs.Device.{partOf, figure, idcodeOf, frameLength, frameCount, memoryLength, partRefusal, figureRefusal};
+ghost use Rattle.parts.specs.Device.{partOf, figure, idcodeOf, frameLength, frameCount, memoryLength, partRefusal, figureRefusal, valueOf};
 ghost use Rattle.parts.specs.Table.{Limits};
 
 // What tells one part from another: R, C and B of document 01 are rows, columns and ram_columns.
@@ -164,5 +164,15 @@ pub fn figure_refusal(answer: Figure) -> u32
     match answer {
         Figure::Value(_) => 0,
         Figure::UnknownDevice => 21,
+    }
+}
+
+// The number that a figure tells, 0 where it is refused.
+pub fn value_of(answer: Figure) -> u32
+    ensures { λ r. ⌜ r ≡ valueOf answer ⌝ }
+{
+    match answer {
+        Figure::Value(v) => v,
+        Figure::UnknownDevice => 0,
     }
 }

@@ -1,0 +1,40 @@
+-- Commands and startup.
+-- Sources: 001, Table 2 and the four operations after Table 11; 01, "CMD".
+use Prim.Native.Nat.{ℕ}
+use mathlib.Core.Bool.{Bool, true, false, cond, _&&_, _||_}
+use lib.Dec.{eqb}
+use Rattle.config.specs.Registers.{withCrc}
+use Rattle.config.specs.Control.{withRegisters, withFlags, withGhigh, withStartup, fed}
+use Rattle.config.specs.declared.Bytes.the-variants as Bytes
+use Rattle.config.specs.declared.Flags.{Flags}
+use Rattle.config.specs.declared.Control.{Control}
+use Rattle.config.specs.declared.Phase.{Phase}
+use Rattle.config.specs.declared.Phase.the-variants as Phase
+use Rattle.config.specs.declared.Event.the-variants as Event
+use Rattle.config.specs.declared.Fed.{Fed}
+
+-- 01: DESYNC: "if a start was pending, a check has passed since, and IDCODE was accepted, the device is started. DESYNC always
+-- ends a pending start." Started lasts until power-on.
+unfoldable pub desynced : Flags → Flags
+desynced f = withStartup false (f .checked) (f .started || (f .«start_pending» && f .checked && f .«idcode_ok»)) f
+
+-- 01: "AGHIGH and LFRM set and clear GHIGH. START makes a start pending and forgets passed checks."
+unfoldable pub signalled : ℕ → Flags → Flags
+signalled k f =
+    cond (eqb k 3) (withGhigh false f)
+    (cond (eqb k 5) (withStartup true false (f .started) f)
+    (cond (eqb k 8) (withGhigh true f)
+    (cond (eqb k 13) (desynced f) f)))
+
+-- 01: "RCRC makes the CRC zero"
+unfoldable pub crcAfter : ℕ → ℕ → ℕ
+crcAfter k v = cond (eqb k 7) 0 v
+
+-- 01: "DESYNC returns to hunting with no bytes remembered"; words left in the packet are dropped
+unfoldable pub phaseAfter : ℕ → Phase → Phase
+phaseAfter k p = cond (eqb k 13) (Phase.Hunting Bytes.Zero) p
+
+-- command k acts: 01, "The others only stand in CMD"
+unfoldable pub acted : ℕ → Phase → Control → Fed
+acted k p c =
+    fed (phaseAfter k p) (withFlags (signalled k (c .flags)) (withRegisters (withCrc (crcAfter k (c .registers .crc)) (c .registers)) c)) Event.Nothing

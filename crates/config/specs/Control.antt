@@ -1,0 +1,69 @@
+-- The control state with one part of it replaced, and what a word can leave: the next phase and state with an event, or a stop.
+-- Source: 01, "Words and packets", first paragraph, and "Stops and refusals".
+use Prim.Native.Nat.{ℕ}
+use mathlib.Core.Bool.{Bool, true, false}
+use Rattle.config.specs.declared.Registers.{Registers}
+use Rattle.config.specs.declared.Flags.{Flags}
+use Rattle.config.specs.declared.Current.{Current}
+use Rattle.config.specs.declared.Bytes.{Bytes}
+use Rattle.config.specs.declared.Control.{Control}
+use Rattle.config.specs.declared.Phase.{Phase}
+use Rattle.config.specs.declared.Phase.the-variants as Phase
+use Rattle.config.specs.declared.Stop.{Stop}
+use Rattle.config.specs.declared.Stop.the-variants as Stop
+use Rattle.config.specs.declared.Event.{Event}
+use Rattle.config.specs.declared.Event.the-variants as Event
+use Rattle.config.specs.declared.Fed.{Fed}
+
+abbrev pub withRegisters : Registers → Control → Control
+withRegisters r c = record { device = c .device; registers = r; flags = c .flags; current = c .current; partial = c .partial }
+
+abbrev pub withFlags : Flags → Control → Control
+withFlags f c = record { device = c .device; registers = c .registers; flags = f; current = c .current; partial = c .partial }
+
+abbrev pub withCurrent : Current → Control → Control
+withCurrent n c = record { device = c .device; registers = c .registers; flags = c .flags; current = n; partial = c .partial }
+
+abbrev pub withPartial : Bytes → Control → Control
+withPartial b c = record { device = c .device; registers = c .registers; flags = c .flags; current = c .current; partial = b }
+
+abbrev pub fed : Phase → Control → Event → Fed
+fed p c e = record { phase = p; control = c; event = e }
+
+-- 01: "The bad word is dropped: not fed, not kept, with nothing in the record changed but the phase and an emptied part word"
+abbrev pub stopped : Stop → Control → Fed
+stopped s c = fed (Phase.Stopped s) c Event.Nothing
+
+-- 01's number of a stop
+unfoldable pub stopNumber : Stop → ℕ
+stopNumber Stop.BadHeader = 1
+stopNumber Stop.BadRegister = 2
+stopNumber Stop.ReadOperation = 3
+stopNumber Stop.WrongIdcode = 4
+stopNumber Stop.WrongFrameLength = 5
+stopNumber Stop.NotReady = 6
+stopNumber Stop.WrongCount = 7
+stopNumber Stop.CrcMismatch = 8
+stopNumber Stop.NoCurrentFrame = 9
+stopNumber Stop.UnknownCommand = 10
+
+-- ---- flags with one of them replaced
+
+abbrev pub withIdcodeOk : Flags → Flags
+withIdcodeOk f = record { «idcode_ok» = true; «flr_ok» = f .«flr_ok»; «buffer_valid» = f .«buffer_valid»; ghigh = f .ghigh; «start_pending» = f .«start_pending»; checked = f .checked; started = f .started }
+
+abbrev pub withFlrOk : Flags → Flags
+withFlrOk f = record { «idcode_ok» = f .«idcode_ok»; «flr_ok» = true; «buffer_valid» = f .«buffer_valid»; ghigh = f .ghigh; «start_pending» = f .«start_pending»; checked = f .checked; started = f .started }
+
+abbrev pub withBufferValid : Flags → Flags
+withBufferValid f = record { «idcode_ok» = f .«idcode_ok»; «flr_ok» = f .«flr_ok»; «buffer_valid» = true; ghigh = f .ghigh; «start_pending» = f .«start_pending»; checked = f .checked; started = f .started }
+
+abbrev pub withGhigh : Bool → Flags → Flags
+withGhigh g f = record { «idcode_ok» = f .«idcode_ok»; «flr_ok» = f .«flr_ok»; «buffer_valid» = f .«buffer_valid»; ghigh = g; «start_pending» = f .«start_pending»; checked = f .checked; started = f .started }
+
+abbrev pub withChecked : Flags → Flags
+withChecked f = record { «idcode_ok» = f .«idcode_ok»; «flr_ok» = f .«flr_ok»; «buffer_valid» = f .«buffer_valid»; ghigh = f .ghigh; «start_pending» = f .«start_pending»; checked = true; started = f .started }
+
+-- pending, checked, started
+abbrev pub withStartup : Bool → Bool → Bool → Flags → Flags
+withStartup p k s f = record { «idcode_ok» = f .«idcode_ok»; «flr_ok» = f .«flr_ok»; «buffer_valid» = f .«buffer_valid»; ghigh = f .ghigh; «start_pending» = p; checked = k; started = s }

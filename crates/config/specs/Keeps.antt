@@ -1,0 +1,175 @@
+-- No word and no byte changes the device number, or clears started, buffer_valid, idcode_ok or flr_ok.
+-- By the cases of each definition: every outcome leaves the device and either leaves the four flags or sets one of them.
+use mathlib.Core.Path.{_≡_, _∙_, refl}
+use mathlib.Core.Bool.{Bool, true, _||_}
+use Prim.Native.Nat.{ℕ, _+_}
+use lib.Dec.{eqb, leb, ltb}
+use Rattle.config.specs.Cases.{either}
+use Rattle.config.specs.Part.{idcodeAt, lengthAt}
+use Rattle.config.specs.Registers.{registerAt}
+use Rattle.config.specs.Control.{withPartial, fed}
+use Rattle.config.specs.Packets.{ready, counted, begin, typeOneWrite, obeyed, packet, headerWord}
+use Rattle.config.specs.Commands.{desynced, signalled, acted}
+use Rattle.config.specs.Words.{checked, farWord, cmdWord, frameStored, fdriWord, mfwrStored, mfwrWord, idcodeWord, flrWord, dataWord, word}
+use Rattle.config.specs.Bytes.{gathered, wordOf, byte}
+use Rattle.config.specs.declared.Register.{Register}
+use Rattle.config.specs.declared.Register.the-variants as Register
+use Rattle.config.specs.declared.Open.{Open}
+use Rattle.config.specs.declared.Open.the-variants as Open
+use Rattle.config.specs.declared.Packet.{Packet}
+use Rattle.config.specs.declared.Packet.the-variants as Packet
+use Rattle.config.specs.declared.Current.{Current}
+use Rattle.config.specs.declared.Current.the-variants as Current
+use Rattle.config.specs.declared.Bytes.{Bytes}
+use Rattle.config.specs.declared.Bytes.the-variants as Bytes
+use Rattle.config.specs.declared.Flags.{Flags}
+use Rattle.config.specs.declared.Control.{Control}
+use Rattle.config.specs.declared.Phase.{Phase}
+use Rattle.config.specs.declared.Phase.the-variants as Phase
+use Rattle.config.specs.declared.Event.the-variants as Event
+use Rattle.config.specs.declared.Fed.{Fed}
+
+-- the four flags that stay set; the others (ghigh, start_pending, checked) are free, so flags that differ in these alone have grown
+abbrev pub Grown : Flags → Flags → Type 0
+Grown f g = record {
+  started : f .started ≡ true → g .started ≡ true;
+  buffer-valid : f .«buffer_valid» ≡ true → g .«buffer_valid» ≡ true;
+  idcode-ok : f .«idcode_ok» ≡ true → g .«idcode_ok» ≡ true;
+  flr-ok : f .«flr_ok» ≡ true → g .«flr_ok» ≡ true;
+}
+
+pub grown-refl : (f : Flags) → Grown f f
+grown-refl f = record { started = λ h. h; buffer-valid = λ h. h; idcode-ok = λ h. h; flr-ok = λ h. h }
+
+pub grown-trans : (f g k : Flags) → Grown f g → Grown g k → Grown f k
+grown-trans f g k a b = record {
+  started = λ h. b .started (a .started h);
+  buffer-valid = λ h. b .buffer-valid (a .buffer-valid h);
+  idcode-ok = λ h. b .idcode-ok (a .idcode-ok h);
+  flr-ok = λ h. b .flr-ok (a .flr-ok h);
+}
+
+-- what every step keeps of the control state
+abbrev pub Kept : Control → Control → Type 0
+Kept c d = record { device : d .device ≡ c .device; flags : Grown (c .flags) (d .flags) }
+
+pub kept-refl : (c : Control) → Kept c c
+kept-refl c = record { device = refl; flags = grown-refl (c .flags) }
+
+pub kept-trans : (c d e : Control) → Kept c d → Kept d e → Kept c e
+kept-trans c d e a b = record { device = b .device ∙ a .device; flags = grown-trans (c .flags) (d .flags) (e .flags) (a .flags) (b .flags) }
+
+-- ---- commands
+
+or-left : (a b : Bool) → a ≡ true → (a || b) ≡ true
+or-left a b h = rw h
+
+pub signalled-grown : (k : ℕ) (f : Flags) → Grown f (signalled k f)
+unfolding signalled desynced
+signalled-grown k f =
+    either (Grown f) (eqb k 3) (λ h. grown-refl f)
+    (λ h. either (Grown f) (eqb k 5) (λ h. grown-refl f)
+    (λ h. either (Grown f) (eqb k 8) (λ h. grown-refl f)
+    (λ h. either (Grown f) (eqb k 13) (λ h. record { started = or-left _ _; buffer-valid = λ h. h; idcode-ok = λ h. h; flr-ok = λ h. h }) (λ h. grown-refl f))))
+
+pub acted-keeps : (k : ℕ) (p : Phase) (c : Control) → Kept c (acted k p c .control)
+unfolding acted
+acted-keeps k p c = record { device = refl; flags = signalled-grown k (c .flags) }
+
+-- ---- words
+
+module _ (c : Control) where
+  abbrev Keeping : Fed → Type 0
+  Keeping f = Kept c (f .control)
+
+  -- a header word changes only the phase
+  abbrev Plain : Fed → Type 0
+  Plain f = f ≡ fed (f .phase) c Event.Nothing
+
+  begin-plain : (r : Register) (n : ℕ) → Plain (begin r n c)
+  unfolding begin
+  begin-plain r n = either Plain (ready r c) (λ h. either Plain (counted r (lengthAt (c .device)) n) (λ h. refl) (λ h. refl)) (λ h. refl)
+
+  one-plain : (o : Open) (n : ℕ) → Plain (typeOneWrite o n c)
+  unfolding typeOneWrite
+  one-plain Open.Closed n = refl
+  one-plain (Open.After r) n = either Plain (eqb n 0) (λ h. refl) (λ h. begin-plain r n)
+
+  obeyed-plain : (k : Packet) → Plain (obeyed k c)
+  unfolding obeyed
+  obeyed-plain Packet.Idle = refl
+  obeyed-plain Packet.Bad = refl
+  obeyed-plain Packet.Read = refl
+  obeyed-plain (Packet.Write a n) = one-plain (registerAt a) n
+  obeyed-plain (Packet.LongWrite r n) = either Plain (eqb n 0) (λ h. refl) (λ h. begin-plain r n)
+
+  pub header-plain : (o : Open) (w : ℕ) → headerWord o c w ≡ fed (headerWord o c w .phase) c Event.Nothing
+  header-plain o w = obeyed-plain (packet o w)
+
+  pub header-keeps : (o : Open) (w : ℕ) → Kept c (headerWord o c w .control)
+  header-keeps o w = rw (header-plain o w) (kept-refl c)
+
+  crc-keeps : (v : ℕ) (p : Phase) → Keeping (checked v p c)
+  unfolding checked
+  crc-keeps v p = either Keeping (eqb v 0) (λ h. kept-refl c) (λ h. kept-refl c)
+
+  stored-keeps : (n : Current) (left filled w : ℕ) → Keeping (frameStored n left filled c w)
+  unfolding frameStored
+  stored-keeps (Current.Frame n) left filled w = kept-refl c
+  stored-keeps Current.NoFrame left filled w = kept-refl c
+
+  fdri-keeps : (left filled w : ℕ) → Keeping (fdriWord left filled c w)
+  unfolding fdriWord
+  fdri-keeps left filled w =
+      either Keeping (leb left 1) (λ h. record { device = refl; flags = record { started = λ h. h; buffer-valid = λ h. refl; idcode-ok = λ h. h; flr-ok = λ h. h } })
+      (λ h. either Keeping (ltb (filled + 1) (lengthAt (c .device))) (λ h. kept-refl c) (λ h. stored-keeps (c .current) left filled w))
+
+  second-keeps : (n : Current) (w : ℕ) → Keeping (mfwrStored n c w)
+  unfolding mfwrStored
+  second-keeps (Current.Frame n) w = kept-refl c
+  second-keeps Current.NoFrame w = kept-refl c
+
+  pub data-keeps : (r : Register) (left filled w : ℕ) → Kept c (dataWord r left filled c w .control)
+  unfolding dataWord farWord cmdWord mfwrWord flrWord idcodeWord
+  data-keeps Register.Crc left filled w = crc-keeps _ _
+  data-keeps Register.Far left filled w = acted-keeps (c .registers .cmd) _ _
+  data-keeps Register.Fdri left filled w = fdri-keeps left filled w
+  data-keeps Register.Cmd left filled w = either Keeping (ltb 13 w) (λ h. kept-refl c) (λ h. acted-keeps w _ _)
+  data-keeps Register.Ctl left filled w = kept-refl c
+  data-keeps Register.Mask left filled w = kept-refl c
+  data-keeps Register.Lout left filled w = kept-refl c
+  data-keeps Register.Cor left filled w = kept-refl c
+  data-keeps Register.Mfwr left filled w = either Keeping (leb left 1) (λ h. second-keeps (c .current) w) (λ h. kept-refl c)
+  data-keeps Register.Flr left filled w =
+      either Keeping (eqb (w + 1) (lengthAt (c .device)))
+      (λ h. record { device = refl; flags = record { started = λ h. h; buffer-valid = λ h. h; idcode-ok = λ h. h; flr-ok = λ h. refl } })
+      (λ h. kept-refl c)
+  data-keeps Register.Idcode left filled w =
+      either Keeping (eqb w (idcodeAt (c .device)))
+      (λ h. record { device = refl; flags = record { started = λ h. h; buffer-valid = λ h. h; idcode-ok = λ h. refl; flr-ok = λ h. h } })
+      (λ h. kept-refl c)
+
+pub word-keeps : (p : Phase) (c : Control) (w : ℕ) → Kept c (word p c w .control)
+unfolding word
+word-keeps (Phase.Hunting b) c w = kept-refl c
+word-keeps (Phase.Header o) c w = header-keeps c o w
+word-keeps (Phase.Data r left filled) c w = data-keeps c r left filled w
+word-keeps Phase.Crc c w = crc-keeps c _ _
+word-keeps (Phase.Stopped s) c w = kept-refl c
+
+-- ---- bytes
+
+gathered-keeps : (b : Bytes) (p : Phase) (c : Control) (x : ℕ) → Kept c (gathered b p c x .control)
+unfolding gathered
+gathered-keeps Bytes.Zero p c x = kept-refl c
+gathered-keeps (Bytes.One a) p c x = kept-refl c
+gathered-keeps (Bytes.Two a b) p c x = kept-refl c
+gathered-keeps (Bytes.Three a b d) p c x = word-keeps p (withPartial Bytes.Zero c) (wordOf a b d x)
+
+pub byte-keeps : (p : Phase) (c : Control) (x : ℕ) → Kept c (byte p c x .control)
+unfolding byte
+byte-keeps (Phase.Hunting b) c x = kept-refl c
+byte-keeps (Phase.Header o) c x = gathered-keeps (c .partial) _ c x
+byte-keeps (Phase.Data r left filled) c x = gathered-keeps (c .partial) _ c x
+byte-keeps Phase.Crc c x = gathered-keeps (c .partial) _ c x
+byte-keeps (Phase.Stopped s) c x = kept-refl c

@@ -1,0 +1,14 @@
+pub mod Part
+pub mod Registers
+pub mod Control
+pub mod Packets
+pub mod Commands
+pub mod Words
+pub mod Bytes
+pub mod Consistent
+pub mod Cases
+pub mod Keeps
+pub mod Stopping
+pub mod Figures
+pub mod Consistency
+pub mod Events

@@ -1,0 +1,64 @@
+// The items of consistency that go by cases.
+use crate::Control;
+use crate::Current;
+use crate::Phase;
+use crate::Register;
+use crate::figures::count_at;
+use crate::figures::length_at;
+use crate::writes::address_of;
+ghost use mathlib.Core.Path.{_≡_};
+ghost use Rattle.config.specs.Consistent.{currentFits, dataFits, phaseFits};
+
+pub fn current_fits(device: u32, current: Current) -> bool
+    ensures { λ r. ⌜ r ≡ currentFits device current ⌝ }
+{
+    match current {
+        Current::Frame(n) => n < count_at(device),
+        Current::NoFrame => true,
+    }
+}
+
+fn data_fits(register: Register, left: u32, filled: u32, control: Control) -> bool
+    ensures { λ r. ⌜ r ≡ dataFits register left filled control ⌝ }
+{
+    let address = address_of(register);
+    if address == 2 {
+        let length = length_at(control.device) as u64;
+        let filled = filled as u64;
+        if length <= filled {
+            return false;
+        }
+        return (filled + left as u64) % length == 0;
+    }
+    if address == 10 {
+        if 2 < left {
+            return false;
+        }
+        return control.flags.buffer_valid;
+    }
+    true
+}
+
+pub fn phase_fits(phase: Phase, control: Control) -> bool
+    ensures { λ r. ⌜ r ≡ phaseFits phase control ⌝ }
+{
+    match phase {
+        Phase::Hunting(_) => !control.flags.start_pending,
+        Phase::Header(_) => true,
+        Phase::Data {
+            register,
+            left,
+            filled,
+        } => {
+            if left < 1 {
+                return false;
+            }
+            if 134217727 < left {
+                return false;
+            }
+            data_fits(register, left, filled, control)
+        }
+        Phase::Crc => true,
+        Phase::Stopped(_) => true,
+    }
+}

@@ -1,0 +1,36 @@
+// The figures of the record's part by its device number, 0 where the number names no part.
+use crate::Current;
+use parts::device::value_of;
+use parts::frame::NumberAnswer;
+ghost use mathlib.Core.Path.{_≡_};
+ghost use Rattle.config.specs.Part.{idcodeAt, lengthAt, countAt, named};
+
+pub fn idcode_at(device: u32) -> u32
+    ensures { λ r. ⌜ r ≡ idcodeAt device ⌝ }
+{
+    value_of(parts::device::idcode(device))
+}
+
+pub fn length_at(device: u32) -> u32
+    ensures { λ r. ⌜ r ≡ lengthAt device ⌝ }
+{
+    value_of(parts::device::frame_length(device))
+}
+
+pub fn count_at(device: u32) -> u32
+    ensures { λ r. ⌜ r ≡ countAt device ⌝ }
+{
+    value_of(parts::device::frame_count(device))
+}
+
+// The frame that an address names.
+pub fn named(device: u32, address: u32) -> Current
+    ensures { λ r. ⌜ r ≡ named device address ⌝ }
+{
+    let answer = parts::frame::frame_number(device, address);
+    match answer {
+        NumberAnswer::Number(n) => Current::Frame(n),
+        NumberAnswer::NoFrame => Current::NoFrame,
+        NumberAnswer::UnknownDevice => Current::NoFrame,
+    }
+}

@@ -1,0 +1,188 @@
+// Header words: parsed, then obeyed. The checks go 1, 3, 2, 6, 7.
+use crate::Control;
+use crate::Event;
+use crate::Fed;
+use crate::Open;
+use crate::Packet;
+use crate::Phase;
+use crate::Register;
+use crate::Stop;
+use crate::figures::length_at;
+use crate::writes::address_of;
+use crate::writes::register_at;
+ghost use mathlib.Core.Path.{_≡_};
+ghost use Rattle.config.specs.Control.{fed, stopped};
+ghost use Rattle.config.specs.Packets.{type1, type2, packet, ready, counted, begin, typeOneWrite, obeyed, headerWord};
+ghost use Rattle.config.specs.declared.Event.the-variants as Event;
+
+// The machine where nothing but the phase changes.
+pub fn going(phase: Phase, control: Control) -> Fed
+    ensures { λ r. ⌜ r ≡ fed phase control Event.Nothing ⌝ }
+{
+    Fed {
+        phase: phase,
+        control: control,
+        event: Event::Nothing,
+    }
+}
+
+// The bad word is dropped.
+pub fn stopped(stop: Stop, control: Control) -> Fed
+    ensures { λ r. ⌜ r ≡ stopped stop control ⌝ }
+{
+    Fed {
+        phase: Phase::Stopped(stop),
+        control: control,
+        event: Event::Nothing,
+    }
+}
+
+fn type1(word: u32) -> Packet
+    ensures { λ r. ⌜ r ≡ type1 word ⌝ }
+{
+    let operation = word / 134217728 % 4;
+    let count = word % 2048;
+    if operation == 0 {
+        if count == 0 {
+            return Packet::Idle;
+        }
+        return Packet::Bad;
+    }
+    if operation == 1 {
+        return Packet::Read;
+    }
+    if operation == 2 {
+        return Packet::Write {
+            address: word / 8192 % 16384,
+            count: count,
+        };
+    }
+    Packet::Bad
+}
+
+fn type2(opened: Open, word: u32) -> Packet
+    ensures { λ r. ⌜ r ≡ type2 opened word ⌝ }
+{
+    match opened {
+        Open::Closed => Packet::Bad,
+        Open::After(register) => {
+            let operation = word / 134217728 % 4;
+            if operation == 1 {
+                return Packet::Read;
+            }
+            if operation == 2 {
+                return Packet::LongWrite {
+                    register: register,
+                    count: word % 134217728,
+                };
+            }
+            Packet::Bad
+        }
+    }
+}
+
+fn packet(opened: Open, word: u32) -> Packet
+    ensures { λ r. ⌜ r ≡ packet opened word ⌝ }
+{
+    if word == 0 {
+        return Packet::Idle;
+    }
+    let kind = word / 536870912;
+    if kind == 1 {
+        return type1(word);
+    }
+    if kind == 2 {
+        return type2(opened, word);
+    }
+    Packet::Bad
+}
+
+// Stop 6 does not hold.
+fn ready(register: Register, control: Control) -> bool
+    ensures { λ r. ⌜ r ≡ ready register control ⌝ }
+{
+    let address = address_of(register);
+    let flags = control.flags;
+    let accepted = flags.idcode_ok && flags.flr_ok;
+    let command = control.registers.cmd;
+    if address == 2 {
+        return accepted && command == 1;
+    }
+    if address == 10 {
+        return accepted && command == 2 && flags.buffer_valid;
+    }
+    true
+}
+
+// Stop 7 does not hold.
+fn counted(register: Register, length: u32, count: u32) -> bool
+    ensures { λ r. ⌜ r ≡ counted register length count ⌝ }
+{
+    let address = address_of(register);
+    if address == 2 {
+        if length == 0 {
+            return count == 0;
+        }
+        return count % length == 0;
+    }
+    if address == 10 {
+        return count == 2;
+    }
+    true
+}
+
+fn begin(register: Register, count: u32, control: Control) -> Fed
+    ensures { λ r. ⌜ r ≡ begin register count control ⌝ }
+{
+    if ready(register, control) {
+        if counted(register, length_at(control.device), count) {
+            return going(
+                Phase::Data {
+                    register: register,
+                    left: count,
+                    filled: 0,
+                },
+                control,
+            );
+        }
+        return stopped(Stop::WrongCount, control);
+    }
+    stopped(Stop::NotReady, control)
+}
+
+fn type_one_write(opened: Open, count: u32, control: Control) -> Fed
+    ensures { λ r. ⌜ r ≡ typeOneWrite opened count control ⌝ }
+{
+    match opened {
+        Open::Closed => stopped(Stop::BadRegister, control),
+        Open::After(register) => {
+            if count == 0 {
+                return going(Phase::Header(Open::After(register)), control);
+            }
+            begin(register, count, control)
+        }
+    }
+}
+
+fn obey(packet: Packet, control: Control) -> Fed
+    ensures { λ r. ⌜ r ≡ obeyed packet control ⌝ }
+{
+    match packet {
+        Packet::Idle => going(Phase::Header(Open::Closed), control),
+        Packet::Bad => stopped(Stop::BadHeader, control),
+        Packet::Read => stopped(Stop::ReadOperation, control),
+        Packet::Write { address, count } => type_one_write(register_at(address), count, control),
+        Packet::LongWrite { register, count } => {
+            if count == 0 {
+                return going(Phase::Header(Open::Closed), control);
+            }
+            begin(register, count, control)
+        }
+    }
+}
+
+pub fn header_word(opened: Open, control: Control, word: u32) -> Fed
+    ensures { λ r. ⌜ r ≡ headerWord opened control word ⌝ }
+{
+    obey(packet(opened, word), control)
+}

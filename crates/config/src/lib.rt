@@ -1,0 +1,223 @@
+// The configuration logic as a control machine: phase and control state in, a word or a byte, the next ones and an event out.
+// It holds no frame words and no memory; the loader applies the events.
+
+// Zero to three bytes: the sync window while hunting, the partial word after it.
+pub enum Bytes {
+    Zero,
+    One(u8),
+    Two(u8, u8),
+    Three(u8, u8, u8),
+}
+
+// The registers that can be written (001, Table 1).
+pub enum Register {
+    Crc,
+    Far,
+    Fdri,
+    Cmd,
+    Ctl,
+    Mask,
+    Lout,
+    Cor,
+    Mfwr,
+    Flr,
+    Idcode,
+}
+
+// Why a load stopped: 01's stops 1 to 10 in their order.
+pub enum Stop {
+    BadHeader,
+    BadRegister,
+    ReadOperation,
+    WrongIdcode,
+    WrongFrameLength,
+    NotReady,
+    WrongCount,
+    CrcMismatch,
+    NoCurrentFrame,
+    UnknownCommand,
+}
+
+// The register that a type 2 header would use, if the word before was a type 1 write of count 0.
+pub enum Open {
+    Closed,
+    After(Register),
+}
+
+// A header word: nothing to do (padding, no operation), a type 1 write to an address, a type 2 write to the open register, a
+// read, or a header of no allowed kind.
+pub enum Packet {
+    Idle,
+    Write { address: u32, count: u32 },
+    LongWrite { register: Register, count: u32 },
+    Read,
+    Bad,
+}
+
+// The phases, each with what it must know. filled counts the words of the frame that an FDRI packet has filled.
+pub enum Phase {
+    Hunting(Bytes),
+    Header(Open),
+    Data {
+        register: Register,
+        left: u32,
+        filled: u32,
+    },
+    Crc,
+    Stopped(Stop),
+}
+
+// The frame that the next store goes to.
+pub enum Current {
+    Frame(u32),
+    NoFrame,
+}
+
+// The CRC register, and the last word that was written to each other register.
+pub struct Registers {
+    pub crc: u32,
+    pub far: u32,
+    pub fdri: u32,
+    pub cmd: u32,
+    pub ctl: u32,
+    pub mask: u32,
+    pub lout: u32,
+    pub cor: u32,
+    pub mfwr: u32,
+    pub flr: u32,
+    pub idcode: u32,
+}
+
+// checked: a check has passed since START or power-on. buffer_valid: a frame is in the frame buffer.
+pub struct Flags {
+    pub idcode_ok: bool,
+    pub flr_ok: bool,
+    pub buffer_valid: bool,
+    pub ghigh: bool,
+    pub start_pending: bool,
+    pub checked: bool,
+    pub started: bool,
+}
+
+pub struct Control {
+    pub device: u32,
+    pub registers: Registers,
+    pub flags: Flags,
+    pub current: Current,
+    pub partial: Bytes,
+}
+
+// What a word asks of the frame buffer and the memory: keep the word at a place of the buffer, store the buffer at a frame.
+pub enum Event {
+    Nothing,
+    Keep { at: u32, word: u32 },
+    KeepAndStore { at: u32, word: u32, frame: u32 },
+    Store(u32),
+}
+
+// The machine after a word or a byte, and the event.
+pub struct Fed {
+    pub phase: Phase,
+    pub control: Control,
+    pub event: Event,
+}
+
+mod checks; // checks.rt: the items of consistency
+mod command; // command.rt: what a command does
+mod header; // header.rt: header words
+mod writes; // writes.rt: register addresses, and a word written
+mod figures; // figures.rt: the figures of the record's part
+mod data; // data.rt: a data word to each register
+mod stream; // stream.rt: the hunt, and words from bytes
+
+ghost use mathlib.Core.Path.{_≡_};
+ghost use Rattle.config.specs.Control.{stopNumber};
+ghost use Rattle.config.specs.Words.{word};
+ghost use Rattle.config.specs.Bytes.{byte};
+ghost use Rattle.config.specs.Consistent.{consistent};
+
+// A whole word in a phase that takes words.
+pub fn word(phase: Phase, control: Control, w: u32) -> Fed
+    ensures { λ r. ⌜ r ≡ word phase control w ⌝ }
+{
+    match phase {
+        Phase::Hunting(_) => Fed {
+            phase: phase,
+            control: control,
+            event: Event::Nothing,
+        },
+        Phase::Header(opened) => header::header_word(opened, control, w),
+        Phase::Data {
+            register,
+            left,
+            filled,
+        } => data::data_word(register, left, filled, control, w),
+        Phase::Crc => data::crc_word(Phase::Header(Open::Closed), control, w),
+        Phase::Stopped(_) => Fed {
+            phase: phase,
+            control: control,
+            event: Event::Nothing,
+        },
+    }
+}
+
+// One byte. A stopped machine takes none: it is handed back as it is.
+pub fn byte(phase: Phase, control: Control, x: u8) -> Fed
+    ensures { λ r. ⌜ r ≡ byte phase control x ⌝ }
+{
+    let partial = control.partial;
+    match phase {
+        Phase::Hunting(window) => {
+            header::going(
+                stream::hunted(window, x),
+                stream::with_partial(Bytes::Zero, control),
+            )
+        }
+        Phase::Header(_) => stream::gathered(partial, phase, control, x),
+        Phase::Data {
+            register: _,
+            left: _,
+            filled: _,
+        } => stream::gathered(partial, phase, control, x),
+        Phase::Crc => stream::gathered(partial, phase, control, x),
+        Phase::Stopped(_) => header::going(phase, control),
+    }
+}
+
+// 01's number of a stop.
+pub fn stop_number(stop: Stop) -> u32
+    ensures { λ r. ⌜ r ≡ stopNumber stop ⌝ }
+{
+    match stop {
+        Stop::BadHeader => 1,
+        Stop::BadRegister => 2,
+        Stop::ReadOperation => 3,
+        Stop::WrongIdcode => 4,
+        Stop::WrongFrameLength => 5,
+        Stop::NotReady => 6,
+        Stop::WrongCount => 7,
+        Stop::CrcMismatch => 8,
+        Stop::NoCurrentFrame => 9,
+        Stop::UnknownCommand => 10,
+    }
+}
+
+// Phase and control state are consistent.
+pub fn consistent(phase: Phase, control: Control) -> bool
+    ensures { λ r. ⌜ r ≡ consistent phase control ⌝ }
+{
+    let current = control.current;
+    if 7 < control.device {
+        return false;
+    }
+    if !checks::current_fits(control.device, current) {
+        return false;
+    }
+    if 65536 <= control.registers.crc {
+        return false;
+    }
+    if 13 < control.registers.cmd {
+        return false;
+    }
+    checks::phase_fits(phase, control)
+}
