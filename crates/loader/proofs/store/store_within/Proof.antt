@@ -1,0 +1,54 @@
+-- `loader::store::store_within` meets its contract. Where the frame fits, the bytes set one by one are the frame stored.
+-- Its place is at most 852 * 2 ^ 32, so that no product wraps.
+use mathlib.Core.Path.{_∙_}
+use Prim.Native.Nat.{_+_, _*_, _≤_}
+use native.Mathlib.Nat.{mul-le-mul}
+use native.Mathlib.Omega.{arith}
+use lib.ListN.{length}
+use borrow.Author.Needs.{needs}
+use borrow.Author.Tests.{le-leb, lt-leb}
+use denote.Ref.{now}
+use Rattle.loader.specs.Memory.{storeWithin}
+use Rattle.loader.specs.Frames.{store-sets}
+use Rattle.loader.proofs.store.store_within.Statement.{statement}
+use Rattle.loader.proofs.store.store_within.Tie as tie
+
+mul-size : tie.Need-mul-size
+mul-size c = search needs
+
+-- a frame's place is below 2 ^ 42
+frame-small : (c : tie.After-slice-known) → 4 * c .before .args .words * c .before .args .n ≤ 852 * 4294967296
+frame-small c = mul-le-mul {n₂ = 852} {m₂ = 4294967296} (omega arith) (omega arith)
+
+mul-at : tie.Need-mul-at
+mul-at c = omega (arith, frame-small c)
+
+add-if1 : tie.Need-add-if1
+add-if1 c = omega (arith, frame-small c)
+
+full-requires : tie.Need-full-requires
+full-requires c κs = search needs
+
+write-words-requires : tie.Need-write-words-requires
+write-words-requires c κs = search needs
+
+same-length : tie.Need-same-length
+same-length c = search needs
+
+returns : tie.Need-returns
+unfolding storeWithin
+returns c =
+    let a = c .before .before .before .before .before .before .before .args in
+    let fits = c .before .before .before .before .before .if1 .taken in
+    rw (le-leb (4 * a .words * a .n + 4 * a .words) (length (now (a .memory))) fits)
+    (c .before .before .write-words .ensures ∙ store-sets (a .words) (a .n) (now (a .frame)) (now (a .memory)) fits (omega (arith, c .before .before .before .before .full .ensures)))
+
+returns-2 : tie.Need-returns-2
+unfolding storeWithin
+returns-2 c =
+    let a = c .before .before .args in
+    rw (lt-leb (4 * a .words * a .n + 4 * a .words) (length (now (a .memory))) (c .if1 .left))
+
+pub store-within-spec : {M : Type 1} → statement M
+store-within-spec =
+    tie.close (tie.spec mul-size mul-at add-if1 full-requires write-words-requires same-length returns returns-2)

@@ -1,0 +1,10 @@
+pub mod Memory
+pub mod Run
+pub mod Load
+pub mod Pieces
+pub mod Words
+pub mod Frames
+pub mod Kept
+pub mod Safety
+pub mod Fill
+pub mod Turn

@@ -1,0 +1,48 @@
+-- A run over the bytes of a piece: the device record and the memory byte by byte, up to the end or a stop.
+-- Sources: 01, "Words and packets"; "Stops and refusals": "the bytes taken from this piece, up to and with the byte that
+-- ended the bad word. A stopped device takes nothing and answers the same number."
+use Prim.Native.Nat.{ℕ, _+_}
+use mathlib.Core.List.{List, [], _∷_}
+use mathlib.Core.Bool.{Bool, true, false, cond}
+use Rattle.config.specs.Part.{lengthAt}
+use Rattle.config.specs.Bytes.{byte}
+use Rattle.config.specs.declared.Phase.{Phase}
+use Rattle.config.specs.declared.Phase.the-variants as Phase
+use Rattle.config.specs.declared.Fed.{Fed}
+use Rattle.loader.specs.Memory.{buffered, stored}
+use Rattle.loader.specs.declared.Device.{Device}
+
+unfoldable pub isStopped : Phase → Bool
+isStopped (Phase.Hunting b) = false
+isStopped (Phase.Header o) = false
+isStopped (Phase.Data r left filled) = false
+isStopped Phase.Crc = false
+isStopped (Phase.Stopped s) = true
+
+-- what the control machine makes of a byte
+abbrev pub fedByte : Device → ℕ → Fed
+fedByte d x = byte (d .phase) (d .control) x
+
+-- the record after what the control machine made of a word or a byte
+abbrev pub deviceAfter : Fed → Device → Device
+deviceAfter f d = record { phase = f .phase; control = f .control; frame = buffered (f .event) (d .frame) }
+
+-- the memory after it
+abbrev pub memoryAfter : Fed → Device → List ℕ → List ℕ
+memoryAfter f d m = stored (lengthAt (d .control .device)) (f .event) (d .frame) m
+
+pub record Ran : Type 0 where
+  pub device : Device
+  pub memory : List ℕ
+  pub taken : ℕ
+
+abbrev pub ran : Device → List ℕ → ℕ → Ran
+ran d m n = record { device = d; memory = m; taken = n }
+
+-- with n bytes taken before
+abbrev pub after : ℕ → Ran → Ran
+after n r = ran (r .device) (r .memory) (n + r .taken)
+
+unfoldable pub run : Device → List ℕ → List ℕ → Ran
+run d m [] = ran d m 0
+run d m (x ∷ xs) = cond (isStopped (d .phase)) (ran d m 0) (after 1 (run (deviceAfter (fedByte d x) d) (memoryAfter (fedByte d x) d m) xs))

@@ -1,0 +1,80 @@
+-- What every load keeps: a consistent record stays consistent, the four flags that stay set stay set, and a load by pieces ends
+-- as the joined load. Each is config's theorem for a byte, carried over the bytes of a run.
+use mathlib.Core.Path.{_≡_, _∙_, refl, sym, ap}
+use mathlib.Core.List.{List, _∷_, _++_}
+use mathlib.Core.Bool.{true}
+use Prim.Native.Nat.{ℕ, _≤_}
+use native.Mathlib.Omega.{arith}
+use lib.ListN.{length}
+use Rattle.config.specs.Part.{lengthAt}
+use Rattle.config.specs.Control.{withPartial, stopped}
+use Rattle.config.specs.Consistent.{consistent}
+use Rattle.config.specs.Consistency.{byte-consistent}
+use Rattle.config.specs.Keeps.{Grown, grown-refl, grown-trans, byte-keeps}
+use Rattle.config.specs.Stopping.{leftAt, running, word-stops}
+use Rattle.config.specs.Bytes.{wordOf, byte}
+use Rattle.config.specs.declared.Control.{Control}
+use Rattle.config.specs.declared.Fed.{Fed}
+use Rattle.config.specs.declared.Stop.{Stop}
+use Rattle.config.specs.declared.Bytes.the-variants as Bytes
+use Rattle.config.specs.declared.Phase.{Phase}
+use Rattle.config.specs.declared.Phase.the-variants as Phase
+use Rattle.loader.specs.Run.{ran, run}
+use Rattle.loader.specs.Load.{load}
+use Rattle.loader.specs.Pieces.{run-invariant, taken-le, load-accepted, Verdict, verdict, accepted-again, later, load-append}
+use Rattle.loader.specs.Words.{takesWords, partial-empty, fedWord, word-run}
+use Rattle.loader.specs.Words.{word-stops as run-stops}
+use Rattle.loader.specs.Frames.{length-fits}
+use Rattle.loader.specs.Kept.{run-device, run-keeps}
+use Rattle.loader.specs.declared.Device.{Device}
+
+pub run-consistent : (d : Device) (m xs : List ℕ) → consistent (d .phase) (d .control) ≡ true → consistent (run d m xs .device .phase) (run d m xs .device .control) ≡ true
+run-consistent = run-invariant (λ e _. consistent (e .phase) (e .control) ≡ true) (λ e _ x _ i. byte-consistent (e .phase) (e .control) x i)
+
+pub load-consistent : (d : Device) (m xs : List ℕ) → consistent (d .phase) (d .control) ≡ true → consistent (load d m xs .device .phase) (load d m xs .device .control) ≡ true
+load-consistent d m xs h = go (verdict d m)
+  where
+    go : Verdict d m → consistent (load d m xs .device .phase) (load d m xs .device .control) ≡ true
+    go (Verdict.accepts ok) = rw (load-accepted d m xs ok) (run-consistent d m xs h)
+    go (Verdict.refuses a no-load) = rw (no-load xs) h
+
+-- the bytes taken never exceed the piece
+pub load-taken : (d : Device) (m xs : List ℕ) → load d m xs .taken ≤ length xs
+load-taken d m xs = go (verdict d m)
+  where
+    go : Verdict d m → load d m xs .taken ≤ length xs
+    go (Verdict.accepts ok) = rw (load-accepted d m xs ok) (taken-le d m xs)
+    go (Verdict.refuses a no-load) = rw (no-load xs) (omega arith)
+
+-- no load clears started, buffer_valid, idcode_ok or flr_ok
+pub run-grown : (d : Device) (m xs : List ℕ) → Grown (d .control .flags) (run d m xs .device .control .flags)
+run-grown d m xs =
+    run-invariant (λ e _. Grown (d .control .flags) (e .control .flags))
+    (λ e _ x _ i. grown-trans (d .control .flags) (e .control .flags) (byte (e .phase) (e .control) x .control .flags) i (byte-keeps (e .phase) (e .control) x .flags)) d m xs (grown-refl (d .control .flags))
+
+-- 01: "A load by pieces, cut at any byte, ends as the joined load"; the buffer of a record has 213 words
+pub load-pieces : (d : Device) (m a b : List ℕ) → length (d .frame) ≡ 213
+    → load d m (a ++ b) ≡ later (load d m a .taken) (load (load d m a .device) (load d m a .memory) b)
+load-pieces d m a b full =
+    load-append d m a b
+    (λ ok. accepted-again d m (run d m a) ok (run-consistent d m a (ok .fits)) (run-keeps _ d m a refl (omega (arith, length-fits (d .control .device))) .size) (run-device d m a))
+
+takes-runs : (p : Phase) → takesWords p ≡ true → running p ≡ true
+unfolding takesWords
+takes-runs (Phase.Hunting b) h = refl
+takes-runs (Phase.Header o) h = refl
+takes-runs (Phase.Data r left filled) h = refl
+takes-runs Phase.Crc h = refl
+takes-runs (Phase.Stopped s) h = h
+
+-- 01: "The bad word is dropped: not fed, not kept, with nothing in the record changed but the phase and an emptied part word.
+-- Only at 8 it is fed first": a word that stops leaves the record as it was before it but for that, and the memory as it was
+pub stop-leaves : (d : Device) (m : List ℕ) (a b c e : ℕ) (rest : List ℕ) (s : Stop)
+    → takesWords (d .phase) ≡ true → d .control .partial ≡ Bytes.Zero → fedWord d (wordOf a b c e) .phase ≡ Phase.Stopped s
+    → run d m (a ∷ b ∷ c ∷ e ∷ rest) ≡ ran (record { phase = Phase.Stopped s; control = leftAt s (d .control) (wordOf a b c e); frame = d .frame }) m 4
+stop-leaves d m a b c e rest s takes empty stops =
+    let w = wordOf a b c e in
+    let all : fedWord d w ≡ stopped s (leftAt s (withPartial Bytes.Zero (d .control)) w) = word-stops (d .phase) (withPartial Bytes.Zero (d .control)) w (takes-runs (d .phase) takes) s stops in
+    run-stops d takes m a b c e rest s empty stops (ap (λ (f : Fed). f .event) all)
+    ∙ ap (λ (k : Control). ran (record { phase = Phase.Stopped s; control = k; frame = d .frame }) m 4)
+    (ap (λ (f : Fed). f .control) all ∙ ap (λ (k : Control). leftAt s k w) (partial-empty (d .control) empty))

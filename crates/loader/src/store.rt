@@ -1,0 +1,96 @@
+// The frame buffer and the memory, and what an event does to each.
+use config::Event;
+ghost use mathlib.Core.Path.{_≡_};
+ghost use Prim.Native.Nat.{_+_, _*_, _≤_};
+ghost use lib.ListN.{length, take, set, replicate};
+ghost use lib.Seq.{sets};
+ghost use Rattle.loader.specs.Memory.{bytesOf, storeWithin, buffered, stored};
+
+// Every byte becomes zero.
+pub fn clear(memory: &mut [u8])
+    ensures { λ _. ⌜ now (memory .exit) ≡ replicate (length (now (memory .entry))) 0 ⌝ }
+{
+    let mut i: usize = 0;
+    while i < memory.len() {
+        memory[i] = 0;
+        i += 1;
+    }
+}
+
+// States that a buffer passed by value has 213 words, which its type tells here; does nothing.
+fn sized(frame: [u32; 213])
+    ensures { λ _. ⌜ length frame ≡ 213 ⌝ }
+{}
+
+// States the same of a buffer behind a reference; the copy is never read.
+fn full(frame: &[u32; 213])
+    ensures { λ _. ⌜ length (now (frame .entry)) ≡ 213 ⌝ }
+{
+    let words = *frame;
+    sized(words);
+}
+
+// Writes the first words of the buffer to the memory, high byte first, from a place on.
+fn write_words(words: usize, at: usize, frame: &[u32; 213], memory: &mut [u8])
+    requires { ⌜ (words ≤ 213) × (at + 4 * words ≤ length (now memory)) ⌝ }
+    ensures { λ _. ⌜ now (memory .exit) ≡ sets (now (memory .entry)) at (bytesOf (take words (now (frame .entry)))) ⌝ }
+{
+    full(frame);
+    let mut i: usize = 0;
+    let mut j: usize = at;
+    while i < words {
+        let word = frame[i];
+        memory[j] = (word / 16777216 % 256) as u8;
+        memory[j + 1] = (word / 65536 % 256) as u8;
+        memory[j + 2] = (word / 256 % 256) as u8;
+        memory[j + 3] = (word % 256) as u8;
+        i += 1;
+        j += 4;
+    }
+}
+
+// Stores the first words of the buffer as a frame, where the memory holds that frame.
+fn store_within(words: u32, n: u32, frame: &[u32; 213], memory: &mut [u8])
+    requires { ⌜ words ≤ 213 ⌝ }
+    ensures { λ _. ⌜ now (memory .exit) ≡ storeWithin words n (now (frame .entry)) (now (memory .entry)) ⌝ }
+{
+    let size = 4 * words as usize;
+    let at = size * n as usize;
+    if at + size <= memory.len() {
+        full(frame);
+        write_words(words as usize, at, frame, memory);
+    }
+}
+
+// Keeps a word at a place of the buffer.
+fn keep(frame: &mut [u32; 213], at: u32, word: u32)
+    ensures { λ _. ⌜ now (frame .exit) ≡ set (now (frame .entry)) at word ⌝ }
+{
+    let i = at as usize;
+    if i < 213 {
+        frame[i] = word;
+    } else {
+        full(frame);
+    }
+}
+
+// What an event does to the buffer and to the memory.
+pub fn apply(event: Event, words: u32, frame: &mut [u32; 213], memory: &mut [u8])
+    requires { ⌜ words ≤ 213 ⌝ }
+    ensures { λ _. ⌜ now (frame .exit) ≡ buffered event (now (frame .entry)) ⌝ }
+    ensures { λ _. ⌜ now (memory .exit) ≡ stored words event (now (frame .entry)) (now (memory .entry)) ⌝ }
+{
+    match event {
+        Event::Nothing => {}
+        Event::Keep { at, word } => {
+            keep(frame, at, word);
+        }
+        Event::KeepAndStore { at, word, frame: n } => {
+            keep(frame, at, word);
+            store_within(words, n, frame, memory);
+        }
+        Event::Store(n) => {
+            store_within(words, n, frame, memory);
+        }
+    }
+}

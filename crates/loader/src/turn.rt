@@ -1,0 +1,246 @@
+// The next bytes of a piece: words that only fill the buffer, a word, or a byte.
+use crate::fill::fill;
+use crate::fill::word_at;
+use crate::store::apply;
+use config::Bytes;
+use config::Control;
+use config::Fed;
+use config::Phase;
+use config::Register;
+ghost use mathlib.Core.Path.{_≡_};
+ghost use mathlib.Core.Bool.{true, false};
+ghost use mathlib.Core.List.{List};
+ghost use Prim.Native.Nat.{ℕ, _+_, _-_, _*_, _≤_, _<_};
+ghost use lib.ListN.{length};
+ghost use Rattle.config.specs.Part.{lengthAt};
+ghost use Rattle.config.specs.declared.Register.the-variants as Register;
+ghost use Rattle.config.specs.declared.Bytes.the-variants as Bytes;
+ghost use Rattle.config.specs.declared.Phase.the-variants as Phase;
+ghost use Rattle.loader.specs.Memory.{buffered, stored};
+ghost use Rattle.loader.specs.Run.{isStopped};
+ghost use Rattle.loader.specs.Words.{takesWords};
+ghost use Rattle.loader.specs.Fill.{device};
+ghost use Rattle.loader.specs.Turn.{Turn};
+
+// The machine after some bytes, and how many.
+pub struct Turned {
+    pub phase: Phase,
+    pub control: Control,
+    pub taken: usize,
+}
+
+// Applies what the control machine made of a word or a byte.
+fn finish(fed: Fed, words: u32, frame: &mut [u32; 213], memory: &mut [u8], taken: usize) -> Turned
+    requires { ⌜ words ≤ 213 ⌝ }
+    ensures { λ r. ⌜ (r .phase ≡ fed .phase) × (r .control ≡ fed .control) × (r .taken ≡ taken) ⌝ }
+    ensures { λ _. ⌜ now (frame .exit) ≡ buffered (fed .event) (now (frame .entry)) ⌝ }
+    ensures { λ _. ⌜ now (memory .exit) ≡ stored words (fed .event) (now (frame .entry)) (now (memory .entry)) ⌝ }
+{
+    let event = fed.event;
+    let phase = fed.phase;
+    let control = fed.control;
+    apply(event, words, frame, memory);
+    Turned {
+        phase: phase,
+        control: control,
+        taken: taken,
+    }
+}
+
+fn step_byte(
+    phase: Phase,
+    control: Control,
+    words: u32,
+    frame: &mut [u32; 213],
+    memory: &mut [u8],
+    bytes: &[u8],
+    i: usize,
+) -> Turned
+    requires { ⌜ (i < length (now bytes)) × (isStopped phase ≡ false) × (words ≡ lengthAt (control .device)) ⌝ }
+    ensures { λ r. ⌜ Turn (device phase control (now (frame .entry))) (now (memory .entry)) (device (r .phase) (r .control) (now (frame .exit))) (now (memory .exit)) (now (bytes .entry)) i (r .taken) ⌝ }
+{
+    finish(
+        config::byte(phase, control, bytes[i]),
+        words,
+        frame,
+        memory,
+        1,
+    )
+}
+
+fn step_word(
+    phase: Phase,
+    control: Control,
+    words: u32,
+    frame: &mut [u32; 213],
+    memory: &mut [u8],
+    bytes: &[u8],
+    i: usize,
+) -> Turned
+    requires { ⌜ (i + 4 ≤ length (now bytes)) × (takesWords phase ≡ true) × (control .partial ≡ Bytes.Zero) × (words ≡ lengthAt (control .device)) ⌝ }
+    ensures { λ r. ⌜ Turn (device phase control (now (frame .entry))) (now (memory .entry)) (device (r .phase) (r .control) (now (frame .exit))) (now (memory .exit)) (now (bytes .entry)) i (r .taken) ⌝ }
+{
+    finish(
+        config::word(phase, control, word_at(bytes, i)),
+        words,
+        frame,
+        memory,
+        4,
+    )
+}
+
+// n words that only fill the buffer.
+fn step_fill(
+    left: u32,
+    filled: u32,
+    control: Control,
+    words: u32,
+    frame: &mut [u32; 213],
+    bytes: &[u8],
+    i: usize,
+    n: u32,
+) -> Turned
+    requires { ⌜ (1 ≤ n) × (n < left) × (filled + n < words) × (i + 4 * n ≤ length (now bytes)) × (control .partial ≡ Bytes.Zero) × (words ≡ lengthAt (control .device)) ⌝ }
+    ensures { λ r. ⌜ ((m : List ℕ) → Turn (device (Phase.Data Register.Fdri left filled) control (now (frame .entry))) m (device (r .phase) (r .control) (now (frame .exit))) m (now (bytes .entry)) i (r .taken)) ⌝ }
+{
+    let mut registers = control.registers;
+    let done = fill(
+        frame,
+        filled as usize,
+        registers.crc,
+        registers.fdri,
+        bytes,
+        i,
+        n as usize,
+    );
+    registers.crc = done.crc;
+    registers.fdri = done.last;
+    let flags = control.flags;
+    let current = control.current;
+    let partial = control.partial;
+    Turned {
+        phase: Phase::Data {
+            register: Register::Fdri,
+            left: left - n,
+            filled: filled + n,
+        },
+        control: Control {
+            device: control.device,
+            registers: registers,
+            flags: flags,
+            current: current,
+            partial: partial,
+        },
+        taken: 4 * n as usize,
+    }
+}
+
+// How many of the words at hand only fill the buffer: none completes the frame or the packet.
+fn fillable(left: u32, filled: u32, words: u32, room: usize) -> u32
+    ensures { λ r. ⌜ (r ≤ left - 1) × (r ≤ words - (filled + 1)) × (r ≤ room) ⌝ }
+{
+    if left <= 1 {
+        return 0;
+    }
+    if words <= filled {
+        return 0;
+    }
+    let mut n = left - 1;
+    if words - filled - 1 < n {
+        n = words - filled - 1;
+    }
+    if room < n as usize {
+        n = room as u32;
+    }
+    n
+}
+
+fn step_data(
+    register: Register,
+    left: u32,
+    filled: u32,
+    control: Control,
+    words: u32,
+    frame: &mut [u32; 213],
+    memory: &mut [u8],
+    bytes: &[u8],
+    i: usize,
+) -> Turned
+    requires { ⌜ (i + 4 ≤ length (now bytes)) × (control .partial ≡ Bytes.Zero) × (words ≡ lengthAt (control .device)) ⌝ }
+    ensures { λ r. ⌜ Turn (device (Phase.Data register left filled) control (now (frame .entry))) (now (memory .entry)) (device (r .phase) (r .control) (now (frame .exit))) (now (memory .exit)) (now (bytes .entry)) i (r .taken) ⌝ }
+{
+    let phase = Phase::Data {
+        register: register,
+        left: left,
+        filled: filled,
+    };
+    match register {
+        Register::Fdri => {
+            let n = fillable(left, filled, words, (bytes.len() - i) / 4);
+            if n == 0 {
+                return step_word(phase, control, words, frame, memory, bytes, i);
+            }
+            step_fill(left, filled, control, words, frame, bytes, i, n)
+        }
+        _ => step_word(phase, control, words, frame, memory, bytes, i),
+    }
+}
+
+// A word or more, where the partial word is empty and four bytes are at hand.
+fn step_words(
+    phase: Phase,
+    control: Control,
+    words: u32,
+    frame: &mut [u32; 213],
+    memory: &mut [u8],
+    bytes: &[u8],
+    i: usize,
+) -> Turned
+    requires { ⌜ (i + 4 ≤ length (now bytes)) × (isStopped phase ≡ false) × (control .partial ≡ Bytes.Zero) × (words ≡ lengthAt (control .device)) ⌝ }
+    ensures { λ r. ⌜ Turn (device phase control (now (frame .entry))) (now (memory .entry)) (device (r .phase) (r .control) (now (frame .exit))) (now (memory .exit)) (now (bytes .entry)) i (r .taken) ⌝ }
+{
+    match phase {
+        Phase::Header(_) => step_word(phase, control, words, frame, memory, bytes, i),
+        Phase::Data {
+            register,
+            left,
+            filled,
+        } => step_data(
+            register,
+            left,
+            filled,
+            control,
+            words,
+            frame,
+            memory,
+            bytes,
+            i,
+        ),
+        Phase::Crc => step_word(phase, control, words, frame, memory, bytes, i),
+        Phase::Hunting(_) => step_byte(phase, control, words, frame, memory, bytes, i),
+        Phase::Stopped(_) => step_byte(phase, control, words, frame, memory, bytes, i),
+    }
+}
+
+// The next bytes, as many as one step can take.
+pub fn advance(
+    phase: Phase,
+    control: Control,
+    words: u32,
+    frame: &mut [u32; 213],
+    memory: &mut [u8],
+    bytes: &[u8],
+    i: usize,
+) -> Turned
+    requires { ⌜ (i < length (now bytes)) × (isStopped phase ≡ false) × (words ≡ lengthAt (control .device)) ⌝ }
+    ensures { λ r. ⌜ Turn (device phase control (now (frame .entry))) (now (memory .entry)) (device (r .phase) (r .control) (now (frame .exit))) (now (memory .exit)) (now (bytes .entry)) i (r .taken) ⌝ }
+{
+    if bytes.len() - i < 4 {
+        return step_byte(phase, control, words, frame, memory, bytes, i);
+    }
+    let partial = control.partial;
+    match partial {
+        Bytes::Zero => step_words(phase, control, words, frame, memory, bytes, i),
+        _ => step_byte(phase, control, words, frame, memory, bytes, i),
+    }
+}
