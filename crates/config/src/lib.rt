@@ -125,12 +125,13 @@ pub struct Fed {
 mod checks; // checks.rt: the items of consistency
 mod command; // command.rt: what a command does
 mod header; // header.rt: header words
-mod writes; // writes.rt: register addresses, and a word written
+mod writes; // writes.rt: a word written to a register
 mod figures; // figures.rt: the figures of the record's part
 mod data; // data.rt: a data word to each register
 mod stream; // stream.rt: the hunt, and words from bytes
 
 ghost use mathlib.Core.Path.{_≡_};
+ghost use Rattle.config.specs.Registers.{addressOf, registerAt};
 ghost use Rattle.config.specs.Control.{stopNumber};
 ghost use Rattle.config.specs.Words.{word};
 ghost use Rattle.config.specs.Bytes.{byte};
@@ -220,4 +221,43 @@ pub fn consistent(phase: Phase, control: Control) -> bool
         return false;
     }
     checks::phase_fits(phase, control)
+}
+
+// The address of a register (001, Table 1).
+pub fn address_of(register: Register) -> u32
+    ensures { λ r. ⌜ r ≡ addressOf register ⌝ }
+{
+    match register {
+        Register::Crc => 0,
+        Register::Far => 1,
+        Register::Fdri => 2,
+        Register::Cmd => 4,
+        Register::Ctl => 5,
+        Register::Mask => 6,
+        Register::Lout => 8,
+        Register::Cor => 9,
+        Register::Mfwr => 10,
+        Register::Flr => 11,
+        Register::Idcode => 14,
+    }
+}
+
+// The register at an address, if there is one and it can be written.
+pub fn register_at(address: u32) -> Open
+    ensures { λ r. ⌜ r ≡ registerAt address ⌝ }
+{
+    match address {
+        0 => Open::After(Register::Crc),
+        1 => Open::After(Register::Far),
+        2 => Open::After(Register::Fdri),
+        4 => Open::After(Register::Cmd),
+        5 => Open::After(Register::Ctl),
+        6 => Open::After(Register::Mask),
+        8 => Open::After(Register::Lout),
+        9 => Open::After(Register::Cor),
+        10 => Open::After(Register::Mfwr),
+        11 => Open::After(Register::Flr),
+        14 => Open::After(Register::Idcode),
+        _ => Open::Closed,
+    }
 }

@@ -1,9 +1,9 @@
--- `config::writes::address_of` meets its contract: the address of each register.
+-- `config::address_of` meets its contract: the address of each register.
 -- By computation, once the register is known.
 use borrow.Author.Needs.{needs}
 use Rattle.config.specs.Registers.{addressOf}
-use Rattle.config.proofs.writes.address_of.Statement.{statement}
-use Rattle.config.proofs.writes.address_of.Tie as tie
+use Rattle.config.proofs.address_of.Statement.{statement}
+use Rattle.config.proofs.address_of.Tie as tie
 
 enum-told : tie.Need-enum-told
 enum-told c = search needs

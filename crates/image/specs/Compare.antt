@@ -1,0 +1,24 @@
+-- Comparing bytes with an image, and the images that are accepted.
+-- Source: C-INTERFACE.md: "An image that is the image of no consistent record is refused with 22".
+use Prim.Native.Nat.{ℕ}
+use mathlib.Core.List.{List, [], _∷_}
+use mathlib.Core.Bool.{Bool, true, false, _&&_}
+use lib.Dec.{eqb}
+use lib.ListN.{length}
+use Rattle.loader.specs.declared.Device.{Device}
+use Rattle.image.specs.Image.{image}
+use Rattle.image.specs.Decode.{decoded}
+
+-- the second list starts with the first
+unfoldable pub starts : List ℕ → List ℕ → Bool
+starts [] ys = true
+starts (x ∷ xs) [] = false
+starts (x ∷ xs) (y ∷ ys) = eqb y x && starts xs ys
+
+-- the bytes are the record's image
+unfoldable pub isImage : Device → List ℕ → Bool
+isImage d bytes = eqb (length bytes) 948 && starts (image d) bytes
+
+-- bytes that are the image of the record that they decode to; that the record is consistent is judged by config
+abbrev pub accepted : List ℕ → Bool
+accepted bytes = isImage (decoded bytes) bytes

@@ -1,0 +1,9 @@
+pub mod Image
+pub mod Decode
+pub mod Compare
+pub mod Laws
+pub mod Range
+pub mod Numbers
+pub mod Read
+pub mod RoundTrip
+pub mod Refusal

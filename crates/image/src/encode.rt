@@ -1,0 +1,40 @@
+// A device record into its image, and the test that bytes are its image.
+use crate::head::head;
+use crate::words::has_words;
+use crate::words::put_words;
+use loader::Device;
+ghost use mathlib.Core.Path.{_≡_};
+ghost use Rattle.image.specs.Image.{encoded};
+ghost use Rattle.image.specs.Compare.{isImage};
+
+// Writes the image of a record; bytes of another length are left as they are.
+pub fn encode(device: Device, image: &mut [u8])
+    ensures { λ _. ⌜ now (image .exit) ≡ encoded device (now (image .entry)) ⌝ }
+{
+    if image.len() != 948 {
+        return;
+    }
+    let phase = device.phase;
+    let control = device.control;
+    let head = head(phase, control);
+    put_words(image, 0, &head);
+    let frame = device.frame;
+    put_words(image, 96, &frame);
+}
+
+// The bytes are the image of the record.
+pub fn matches(device: Device, image: &[u8]) -> bool
+    ensures { λ r. ⌜ r ≡ isImage device (now (image .entry)) ⌝ }
+{
+    if image.len() != 948 {
+        return false;
+    }
+    let phase = device.phase;
+    let control = device.control;
+    let head = head(phase, control);
+    if !has_words(image, 0, &head) {
+        return false;
+    }
+    let frame = device.frame;
+    has_words(image, 96, &frame)
+}

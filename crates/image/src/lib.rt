@@ -1,0 +1,5 @@
+// A device record as its image of 948 bytes, and back (C-INTERFACE.md, "The record's image, edition 1").
+pub mod decode;
+pub mod encode;
+mod head;
+mod words;
