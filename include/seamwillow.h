@@ -2,6 +2,7 @@
 #ifndef SEAMWILLOW_H
 #define SEAMWILLOW_H
 
+#include <stddef.h>
 #include <stdint.h>
 
 #ifdef __cplusplus
@@ -16,6 +17,19 @@ uint32_t sw_frame_address(uint32_t device, uint32_t number, uint32_t *address);
 
 /* 0 or 21; number: the frame number, FFFFFFFF for none and where refused. */
 uint32_t sw_frame_number(uint32_t device, uint32_t address, uint32_t *number);
+
+/* The length in bytes of a record's image: 237 words, high byte first. */
+#define SW_RECORD_LEN 948
+
+/* 22 where record_len is not 948, judged first, and then nothing is written; else 0, 21, 23. 0 writes the record of
+   the part just powered on and a memory of zeros; 21 and 23 write the fresh record of device 0 and leave the memory. */
+uint32_t sw_power_on(uint32_t device, uint8_t *record, size_t record_len, uint8_t *memory, size_t memory_len);
+
+/* The stop or refusal number, 0 for none; taken: the bytes taken from this piece, 0 at a refusal. A record_len other
+   than 948 and an image of no consistent record are 22, then a memory of another length than the part's is 23;
+   a refusal changes neither record nor memory. */
+uint32_t sw_load(uint8_t *record, size_t record_len, uint8_t *memory, size_t memory_len,
+                 const uint8_t *stream, size_t stream_len, uint64_t *taken);
 
 #ifdef __cplusplus
 }

@@ -1,53 +1,21 @@
 //! The proved CRC, called a word at a time through the C interface, against a plain table loop.
 
 use seamwillow_tests::ffi;
+use seamwillow_tests::names::register::FDRI;
 use seamwillow_tests::random::Random;
-use std::array;
+use seamwillow_tests::tables::Tables;
 use std::hint::black_box;
 use std::time::{Duration, Instant};
 
 const WORDS: usize = 1_000_000;
 const ROUNDS: usize = 15;
-/// Nearly every word of a stream is frame data.
-const FDRI: u32 = 2;
 
-/// The strongest plain form: the register is kept bit-reflected, so that data shifts in from the
-/// low end; four steps of a 256-entry table take a word's bytes, low byte first, and one step of a
-/// 32-entry table takes the five address bits.
-struct Tables {
-    bytes: [u16; 256],
-    addresses: [u16; 32],
-}
-
-/// The reflected register after `bits` zero bits.
-fn shifted(register: u16, bits: u32) -> u16 {
-    (0..bits).fold(register, |register, _| {
-        (register >> 1) ^ (if register & 1 == 1 { 0xA001 } else { 0 })
-    })
-}
-
-impl Tables {
-    fn new() -> Self {
-        Self {
-            bytes: array::from_fn(|index| shifted(index as u16, 8)),
-            addresses: array::from_fn(|index| shifted(index as u16, 5)),
-        }
-    }
-
-    fn feed(&self, register: u16, reg: u32, word: u32) -> u16 {
-        let after_word = word.to_le_bytes().iter().fold(register, |register, byte| {
-            (register >> 8) ^ self.bytes[usize::from(register as u8 ^ byte)]
-        });
-        let index = (u32::from(after_word) ^ reg) & 31;
-        (after_word >> 5) ^ self.addresses[index as usize]
-    }
-
-    fn run(&self, words: &[u32]) -> u32 {
-        let register = words
-            .iter()
-            .fold(0, |register, &word| self.feed(register, FDRI, word));
-        u32::from(register.reverse_bits())
-    }
+// Both feed to FDRI: nearly every word of a stream is frame data.
+fn run_tables(tables: &Tables, words: &[u32]) -> u32 {
+    let register = words
+        .iter()
+        .fold(0, |register, &word| tables.feed(register, FDRI, word));
+    u32::from(register.reverse_bits())
 }
 
 fn run_proved(words: &[u32]) -> u32 {
@@ -77,7 +45,7 @@ fn main() {
     // The rounds take turns, so that other load on the machine meets both alike.
     for _ in 0..ROUNDS {
         let (proved_time, proved_crc) = timed(|| run_proved(black_box(&words)));
-        let (table_time, table_crc) = timed(|| tables.run(black_box(&words)));
+        let (table_time, table_crc) = timed(|| run_tables(&tables, black_box(&words)));
         assert_eq!(proved_crc, table_crc);
         best_proved = best_proved.min(proved_time);
         best_table = best_table.min(table_time);

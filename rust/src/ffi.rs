@@ -4,10 +4,28 @@ extern "C" {
     fn sw_crc(crc: u32, reg: u32, word: u32) -> u32;
     fn sw_frame_address(device: u32, number: u32, address: *mut u32) -> u32;
     fn sw_frame_number(device: u32, address: u32, number: *mut u32) -> u32;
+    fn sw_power_on(
+        device: u32,
+        record: *mut u8,
+        record_len: usize,
+        memory: *mut u8,
+        memory_len: usize,
+    ) -> u32;
+    fn sw_load(
+        record: *mut u8,
+        record_len: usize,
+        memory: *mut u8,
+        memory_len: usize,
+        stream: *const u8,
+        stream_len: usize,
+        taken: *mut u64,
+    ) -> u32;
 }
 
 /// Neither a frame address nor a frame number, so an answer that was never written shows.
 const JUNK: u32 = 0xDEAD_BEEF;
+/// More bytes than any piece has.
+const JUNK_TAKEN: u64 = 0xDEAD_BEEF_DEAD_BEEF;
 
 /// The CRC register after `word` is fed for the register address `reg`.
 // Inlined, so that the benchmark times the library's call and no second one.
@@ -31,4 +49,37 @@ pub fn frame_number(device: u32, address: u32) -> (u32, u32) {
     // SAFETY: the function writes one number, to a place that is ours for the call.
     let code = unsafe { sw_frame_number(device, address, &mut number) };
     (code, number)
+}
+
+/// Powers a part on into a record's image and its memory; the code.
+pub fn power_on(device: u32, record: &mut [u8], memory: &mut [u8]) -> u32 {
+    // SAFETY: the function reads and writes within the two slices, which are ours for the call.
+    unsafe {
+        sw_power_on(
+            device,
+            record.as_mut_ptr(),
+            record.len(),
+            memory.as_mut_ptr(),
+            memory.len(),
+        )
+    }
+}
+
+/// Loads a piece of a stream; the code and the bytes taken.
+pub fn load(record: &mut [u8], memory: &mut [u8], stream: &[u8]) -> (u32, u64) {
+    let mut taken = JUNK_TAKEN;
+    // SAFETY: the function reads the stream, and writes within the two slices and to one number,
+    // all ours for the call.
+    let code = unsafe {
+        sw_load(
+            record.as_mut_ptr(),
+            record.len(),
+            memory.as_mut_ptr(),
+            memory.len(),
+            stream.as_ptr(),
+            stream.len(),
+            &mut taken,
+        )
+    };
+    (code, taken)
 }

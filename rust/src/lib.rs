@@ -1,5 +1,13 @@
-//! What the tests and the benchmark of the proved library share.
+//! What the tests and the benchmarks of the proved library share.
 
 pub mod ffi;
+pub mod guided;
+pub mod loader;
+pub mod names;
 pub mod random;
+pub mod records;
 pub mod reference;
+pub mod sides;
+pub mod stream;
+pub mod tables;
+pub mod worked;

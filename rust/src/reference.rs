@@ -1,9 +1,8 @@
 //! An implementation written from the scope paper (01) alone, to hold the proved library against.
 //!
 //! A part's frames are listed one by one in the paper's order and looked up in that list; the CRC
-//! register is sixteen separate bits, shifted as document 001 draws them.
+//! register is shifted a bit at a time, as document 001 draws it.
 
-use std::array;
 use std::collections::HashMap;
 use std::iter;
 
@@ -14,17 +13,19 @@ const NO_SUCH_FRAME: u32 = 34;
 /// The frame number of an address that names no frame.
 const NONE: u32 = 0xFFFF_FFFF;
 
-/// A row of the paper's table, without the IDCODE, which no lookup needs.
+/// A row of the paper's table.
 pub struct Part {
     pub name: &'static str,
+    pub idcode: u32,
     pub rows: u32,
     pub columns: u32,
     pub ram_columns: u32,
 }
 
-const fn part(name: &'static str, rows: u32, columns: u32, ram_columns: u32) -> Part {
+const fn part(name: &'static str, idcode: u32, [rows, columns, ram_columns]: [u32; 3]) -> Part {
     Part {
         name,
+        idcode,
         rows,
         columns,
         ram_columns,
@@ -33,14 +34,14 @@ const fn part(name: &'static str, rows: u32, columns: u32, ram_columns: u32) -> 
 
 /// The eight parts at their device numbers.
 pub const PARTS: [Part; 8] = [
-    part("XC3S50", 16, 12, 1),
-    part("XC3S200", 24, 20, 2),
-    part("XC3S400", 32, 28, 2),
-    part("XC3S1000", 48, 40, 2),
-    part("XC3S1500", 64, 52, 2),
-    part("XC3S2000", 80, 64, 2),
-    part("XC3S4000", 96, 72, 4),
-    part("XC3S5000", 104, 80, 4),
+    part("XC3S50", 0x0140_D093, [16, 12, 1]),
+    part("XC3S200", 0x0141_4093, [24, 20, 2]),
+    part("XC3S400", 0x0141_C093, [32, 28, 2]),
+    part("XC3S1000", 0x1142_8093, [48, 40, 2]),
+    part("XC3S1500", 0x0143_4093, [64, 52, 2]),
+    part("XC3S2000", 0x0144_0093, [80, 64, 2]),
+    part("XC3S4000", 0x0144_8093, [96, 72, 4]),
+    part("XC3S5000", 0x0145_0093, [104, 80, 4]),
 ];
 
 impl Part {
@@ -52,6 +53,11 @@ impl Part {
     /// F, the frames of the part.
     pub fn frame_count(&self) -> u32 {
         45 + 19 * self.columns + 95 * self.ram_columns
+    }
+
+    /// The bytes of the part's frame memory.
+    pub fn memory_bytes(&self) -> usize {
+        4 * self.frame_words() as usize * self.frame_count() as usize
     }
 
     /// How many minors each major has, for each block.
@@ -154,46 +160,35 @@ impl Default for Lookups {
     }
 }
 
-/// The CRC register as a shift register; bit 0 stands first.
-struct ShiftRegister([bool; 16]);
+/// The register bits that the input is added to: those of X^15, X^2 and 1.
+const TAPS: u16 = 1 << 15 | 1 << 2 | 1;
 
-impl ShiftRegister {
-    fn new(crc: u32) -> Self {
-        Self(array::from_fn(|bit| (crc >> bit) & 1 == 1))
-    }
+/// The bit that leaves the CRC register at the next shift.
+fn top_bit(register: u16) -> u16 {
+    register >> 15
+}
 
-    fn shift_in(&mut self, data: bool) {
-        let input = data ^ self.0[15];
-        self.0.rotate_right(1);
-        self.0[0] = input;
-        self.0[2] ^= input;
-        self.0[15] ^= input;
-    }
-
-    fn value(&self) -> u32 {
-        (0..16).map(|bit| u32::from(self.0[bit]) << bit).sum()
-    }
+/// The CRC register after one bit of data.
+fn shift_in(register: u16, data: u16) -> u16 {
+    (register << 1) ^ (TAPS * (data ^ top_bit(register)))
 }
 
 /// The CRC register after `word` is fed for the register address `reg`, both bit 0 first.
 pub fn crc(crc: u32, reg: u32, word: u32) -> u32 {
-    let mut register = ShiftRegister::new(crc);
-    let word_bits = (0..32).map(|bit| (word >> bit) & 1 == 1);
-    let address_bits = (0..5).map(|bit| (reg >> bit) & 1 == 1);
-    for data in word_bits.chain(address_bits) {
-        register.shift_in(data);
-    }
-    register.value()
+    let word_bits = (0..32).map(|bit| (word >> bit) & 1);
+    let address_bits = (0..5).map(|bit| (reg >> bit) & 1);
+    let bits = word_bits.chain(address_bits);
+    u32::from(bits.fold(crc as u16, |register, bit| shift_in(register, bit as u16)))
 }
 
 /// The word, upper half zero, that makes the register zero when it is written to CRC.
 pub fn check_word(crc: u32) -> u32 {
-    let mut register = ShiftRegister::new(crc);
+    let mut register = crc as u16;
     let mut word = 0;
     for bit in 0..16 {
-        // Data equal to bit 15 shifts in a zero, and sixteen of those leave nothing.
-        let data = register.0[15];
-        register.shift_in(data);
+        // Data equal to the leaving bit shifts in a zero, and sixteen of those leave nothing.
+        let data = top_bit(register);
+        register = shift_in(register, data);
         word |= u32::from(data) << bit;
     }
     word

@@ -5,21 +5,13 @@
 //! paper (01) allows and writes a register of the paper's table, so it is walked by the paper's
 //! rules alone. The part's IDCODE and its frame length of 97 words are the Spartan-3E's own.
 
+use seamwillow_tests::names::command::{DESYNC, RCRC};
+use seamwillow_tests::names::register::{CMD, CRC, FAR, FDRI, FLR, LOUT};
 use seamwillow_tests::{ffi, reference};
 use std::{env, fs};
 
 const VARIABLE: &str = "SEAMWILLOW_REAL_STREAM";
 const SYNC: [u8; 4] = [0xAA, 0x99, 0x55, 0x66];
-
-const CRC: u32 = 0;
-const FAR: u32 = 1;
-const FDRI: u32 = 2;
-const CMD: u32 = 4;
-const LOUT: u32 = 8;
-const FLR: u32 = 11;
-
-const RCRC: u32 = 7;
-const DESYNC: u32 = 13;
 
 /// A word written to a register.
 #[derive(Clone, Copy)]

@@ -4,6 +4,7 @@ ghost use Prim.Native.Nat.{_%_};
 ghost use Rattle.crc16.specs.Register.{feed};
 ghost use Rattle.parts.specs.Address.{frameAddress, frameNumber, addressRefusal, numberRefusal};
 ghost use Rattle.seamwillow.specs.Told.{addressTold, numberTold};
+ghost use Rattle.seamwillow.specs.Records.{poweredImage, loadedImage};
 use parts::frame::AddressAnswer;
 use parts::frame::NumberAnswer;
 
@@ -59,4 +60,47 @@ pub extern "C" fn sw_frame_number(device: u32, address: u32, number: &mut u32) -
             21
         }
     }
+}
+
+// Power-on: the fresh record's image and the memory are written, 01's number is returned.
+#[no_mangle]
+pub extern "C" fn sw_power_on(device: u32, state: &mut [u8], memory: &mut [u8]) -> u32
+    ensures { λ r. ⌜ r ≡ poweredImage device (now (state .entry)) (now (memory .entry)) .code ⌝ }
+    ensures { λ _. ⌜ now (state .exit) ≡ poweredImage device (now (state .entry)) (now (memory .entry)) .image ⌝ }
+    ensures { λ _. ⌜ now (memory .exit) ≡ poweredImage device (now (state .entry)) (now (memory .entry)) .memory ⌝ }
+{
+    if state.len() != 948 {
+        return 22;
+    }
+    let on = loader::power_on(device, memory);
+    let fresh = on.device;
+    let answer = on.answer;
+    image::encode::encode(fresh, state);
+    loader::answer_number(answer)
+}
+
+// Load: the record's image and the memory are changed, 01's number is returned and the bytes taken are written.
+#[no_mangle]
+pub extern "C" fn sw_load(
+    state: &mut [u8],
+    memory: &mut [u8],
+    stream: &[u8],
+    taken: &mut u64,
+) -> u32
+    ensures { λ r. ⌜ r ≡ loadedImage (now (state .entry)) (now (memory .entry)) (now (stream .entry)) .code ⌝ }
+    ensures { λ _. ⌜ now (state .exit) ≡ loadedImage (now (state .entry)) (now (memory .entry)) (now (stream .entry)) .image ⌝ }
+    ensures { λ _. ⌜ now (memory .exit) ≡ loadedImage (now (state .entry)) (now (memory .entry)) (now (stream .entry)) .memory ⌝ }
+    ensures { λ _. ⌜ now (taken .exit) ≡ loadedImage (now (state .entry)) (now (memory .entry)) (now (stream .entry)) .taken ⌝ }
+{
+    let device = image::decode::decode(state);
+    if !image::encode::matches(device, state) {
+        *taken = 0;
+        return 22;
+    }
+    let loaded = loader::load(device, memory, stream);
+    let after = loaded.device;
+    let answer = loaded.answer;
+    image::encode::encode(after, state);
+    *taken = loaded.taken;
+    loader::answer_number(answer)
 }

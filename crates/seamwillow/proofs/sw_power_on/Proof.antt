@@ -1,0 +1,50 @@
+-- `seamwillow::sw_power_on` meets its contract: power-on's outcome, with the record written as its image.
+-- By the law of each of the two cases, from what the calls ensure.
+use mathlib.Core.Path.{_≡_, _∙_, refl, ap}
+use denote.Ref.{now}
+use Rattle.loader.specs.Load.{answerNumber}
+use Rattle.loader.specs.declared.Device.{Device}
+use Rattle.image.specs.Image.{encoded}
+use Rattle.seamwillow.specs.Records.{powered-refused, powered-done}
+use borrow.Author.Needs.{needs}
+use Rattle.seamwillow.proofs.sw_power_on.Statement.{statement}
+use Rattle.seamwillow.proofs.sw_power_on.Tie as tie
+
+returns : tie.Need-returns
+returns c =
+    let a = c .before .before .before .args in
+    rw (powered-refused (a .device) (now (a .state)) (now (a .memory)) (c .if1 .taken)) (refl, (refl, refl))
+
+power-on-requires : tie.Need-power-on-requires
+power-on-requires c κs = search needs
+
+encode-requires : tie.Need-encode-requires
+encode-requires c κs = search needs
+
+answer-number-requires : tie.Need-answer-number-requires
+answer-number-requires c κs = search needs
+
+same-length : tie.Need-same-length
+same-length c = search needs
+
+same-length-2 : tie.Need-same-length-2
+same-length-2 c = search needs
+
+returns-2 : tie.Need-returns-2
+returns-2 c =
+    let a = c .before .before .before .before .before .before .before .before .before .before .before .before .before .args in
+    let on = c .before .before .before .before .before .before .before .before .power-on .ensures in
+    rw (powered-done (a .device) (now (a .state)) (now (a .memory)) (c .before .before .before .before .before .before .before .before .before .before .if1 .left))
+    (c .answer-number .ensures ∙ ap answerNumber (on .1 .0), (c .before .before .before .encode .ensures ∙ ap (λ (d : Device). encoded d (now (a .state))) (on .0), on .1 .1))
+
+pub sw-power-on-spec : {M : Type 1} → statement M
+sw-power-on-spec =
+    tie.close
+    (tie.spec
+    returns
+    power-on-requires
+    encode-requires
+    answer-number-requires
+    same-length
+    same-length-2
+    returns-2)
