@@ -9,7 +9,7 @@ use crate::figures::length_at;
 ghost use mathlib.Core.Path.{_≡_};
 ghost use Rattle.config.specs.Consistent.{currentFits, dataFits, phaseFits};
 
-pub fn current_fits(device: u32, current: Current) -> bool
+pub(crate) fn current_fits(device: u32, current: Current) -> bool
     ensures { λ r. ⌜ r ≡ currentFits device current ⌝ }
 {
     match current {
@@ -39,7 +39,7 @@ fn data_fits(register: Register, left: u32, filled: u32, control: Control) -> bo
     true
 }
 
-pub fn phase_fits(phase: Phase, control: Control) -> bool
+pub(crate) fn phase_fits(phase: Phase, control: Control) -> bool
     ensures { λ r. ⌜ r ≡ phaseFits phase control ⌝ }
 {
     match phase {

@@ -63,7 +63,7 @@ fn phase_after(command: u32, phase: Phase) -> Phase
     }
 }
 
-pub fn act(command: u32, phase: Phase, control: Control) -> Fed
+pub(crate) fn act(command: u32, phase: Phase, control: Control) -> Fed
     ensures { λ r. ⌜ r ≡ acted command phase control ⌝ }
 {
     let mut registers = control.registers;

@@ -94,7 +94,7 @@ fn put(register: Register, word: u32, control: Control) -> Control
 }
 
 // A word to CRC; the auto CRC word too.
-pub fn crc_word(phase: Phase, control: Control, word: u32) -> Fed
+pub(crate) fn crc_word(phase: Phase, control: Control, word: u32) -> Fed
     ensures { λ r. ⌜ r ≡ crcWord phase control word ⌝ }
 {
     let mut registers = control.registers;
@@ -256,7 +256,13 @@ fn flr_word(phase: Phase, control: Control, word: u32) -> Fed
     going(phase, with_flags(flags, put(Register::Flr, word, control)))
 }
 
-pub fn data_word(register: Register, left: u32, filled: u32, control: Control, word: u32) -> Fed
+pub(crate) fn data_word(
+    register: Register,
+    left: u32,
+    filled: u32,
+    control: Control,
+    word: u32,
+) -> Fed
     ensures { λ r. ⌜ r ≡ dataWord register left filled control word ⌝ }
 {
     let next = onward(register, left, filled);

@@ -5,26 +5,26 @@ use parts::frame::NumberAnswer;
 ghost use mathlib.Core.Path.{_≡_};
 ghost use Rattle.config.specs.Part.{idcodeAt, lengthAt, countAt, named};
 
-pub fn idcode_at(device: u32) -> u32
+pub(crate) fn idcode_at(device: u32) -> u32
     ensures { λ r. ⌜ r ≡ idcodeAt device ⌝ }
 {
     value_of(parts::device::idcode(device))
 }
 
-pub fn length_at(device: u32) -> u32
+pub(crate) fn length_at(device: u32) -> u32
     ensures { λ r. ⌜ r ≡ lengthAt device ⌝ }
 {
     value_of(parts::device::frame_length(device))
 }
 
-pub fn count_at(device: u32) -> u32
+pub(crate) fn count_at(device: u32) -> u32
     ensures { λ r. ⌜ r ≡ countAt device ⌝ }
 {
     value_of(parts::device::frame_count(device))
 }
 
 // The frame that an address names.
-pub fn named(device: u32, address: u32) -> Current
+pub(crate) fn named(device: u32, address: u32) -> Current
     ensures { λ r. ⌜ r ≡ named device address ⌝ }
 {
     let answer = parts::frame::frame_number(device, address);

@@ -16,7 +16,7 @@ ghost use Rattle.config.specs.Packets.{type1, type2, packet, ready, coun
 ghost use Rattle.config.specs.declared.Event.the-variants as Event;
 
 // The machine where nothing but the phase changes.
-pub fn going(phase: Phase, control: Control) -> Fed
+pub(crate) fn going(phase: Phase, control: Control) -> Fed
     ensures { λ r. ⌜ r ≡ fed phase control Event.Nothing ⌝ }
 {
     Fed {
@@ -27,7 +27,7 @@ pub fn going(phase: Phase, control: Control) -> Fed
 }
 
 // The bad word is dropped.
-pub fn stopped(stop: Stop, control: Control) -> Fed
+pub(crate) fn stopped(stop: Stop, control: Control) -> Fed
     ensures { λ r. ⌜ r ≡ stopped stop control ⌝ }
 {
     Fed {
@@ -181,7 +181,7 @@ fn obey(packet: Packet, control: Control) -> Fed
     }
 }
 
-pub fn header_word(opened: Open, control: Control, word: u32) -> Fed
+pub(crate) fn header_word(opened: Open, control: Control, word: u32) -> Fed
     ensures { λ r. ⌜ r ≡ headerWord opened control word ⌝ }
 {
     obey(packet(opened, word), control)

@@ -26,7 +26,7 @@ fn is_sync(a: u8, b: u8, c: u8, d: u8) -> bool
 }
 
 // The phase after a byte of the hunt.
-pub fn hunted(window: Bytes, x: u8) -> Phase
+pub(crate) fn hunted(window: Bytes, x: u8) -> Phase
     ensures { λ r. ⌜ r ≡ hunted window x ⌝ }
 {
     match window {
@@ -43,13 +43,13 @@ pub fn hunted(window: Bytes, x: u8) -> Phase
 }
 
 // The word of four bytes.
-pub fn word_of(a: u8, b: u8, c: u8, d: u8) -> u32
+pub(crate) fn word_of(a: u8, b: u8, c: u8, d: u8) -> u32
     ensures { λ r. ⌜ r ≡ wordOf a b c d ⌝ }
 {
     (a as u32) * 16777216 + (b as u32) * 65536 + (c as u32) * 256 + d as u32
 }
 
-pub fn with_partial(partial: Bytes, control: Control) -> Control
+pub(crate) fn with_partial(partial: Bytes, control: Control) -> Control
     ensures { λ r. ⌜ r ≡ withPartial partial control ⌝ }
 {
     let registers = control.registers;
@@ -65,7 +65,7 @@ pub fn with_partial(partial: Bytes, control: Control) -> Control
 }
 
 // A byte after sync: one more of the partial word, or the word that it completes.
-pub fn gathered(partial: Bytes, phase: Phase, control: Control, x: u8) -> Fed
+pub(crate) fn gathered(partial: Bytes, phase: Phase, control: Control, x: u8) -> Fed
     ensures { λ r. ⌜ r ≡ gathered partial phase control x ⌝ }
 {
     match partial {

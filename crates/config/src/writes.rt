@@ -34,7 +34,7 @@ fn hold(register: Register, word: u32, registers: Registers) -> Registers
 }
 
 // A word written: fed to the CRC unless it is for LOUT, then held.
-pub fn write(register: Register, word: u32, registers: Registers) -> Registers
+pub(crate) fn write(register: Register, word: u32, registers: Registers) -> Registers
     ensures { λ r. ⌜ r ≡ written register word registers ⌝ }
 {
     let address = address_of(register);

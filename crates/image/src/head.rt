@@ -162,7 +162,7 @@ fn flag_bits(flags: Flags) -> u32
 }
 
 // Words 0 to 23.
-pub fn head(phase: Phase, control: Control) -> [u32; 24]
+pub(crate) fn head(phase: Phase, control: Control) -> [u32; 24]
     ensures { λ r. ⌜ r ≡ headWords phase control ⌝ }
 {
     let partial = control.partial;

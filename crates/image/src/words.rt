@@ -16,7 +16,7 @@ fn byte_at(image: &[u8], i: usize) -> u8
 }
 
 // Word k, where bytes past the end are 0.
-pub fn word_at(image: &[u8], k: usize) -> u32
+pub(crate) fn word_at(image: &[u8], k: usize) -> u32
     requires { ⌜ k < 237 ⌝ }
     ensures { λ r. ⌜ r ≡ wordAt (now (image .entry)) k ⌝ }
 {
@@ -39,7 +39,7 @@ fn put_word(image: &mut [u8], at: usize, word: u32)
 }
 
 // Writes words from a place on.
-pub fn put_words(image: &mut [u8], at: usize, words: &[u32])
+pub(crate) fn put_words(image: &mut [u8], at: usize, words: &[u32])
     requires { ⌜ at + 4 * length (now words) ≤ length (now image) ⌝ }
     ensures { λ _. ⌜ now (image .exit) ≡ sets (now (image .entry)) at (bytesOf (now (words .entry))) ⌝ }
 {
@@ -68,7 +68,7 @@ fn has_word(image: &[u8], at: usize, word: u32) -> bool
 }
 
 // The bytes from a place on start with those of words.
-pub fn has_words(image: &[u8], at: usize, words: &[u32]) -> bool
+pub(crate) fn has_words(image: &[u8], at: usize, words: &[u32]) -> bool
     requires { ⌜ at + 4 * length (now words) ≤ length (now image) ⌝ }
     ensures { λ r. ⌜ r ≡ starts (bytesOf (now (words .entry))) (drop at (now (image .entry))) ⌝ }
 {

@@ -17,7 +17,7 @@ fn wide(x: u8) -> u32
 }
 
 // The word at an offset, high byte first.
-pub fn word_at(bytes: &[u8], i: usize) -> u32
+pub(crate) fn word_at(bytes: &[u8], i: usize) -> u32
     requires { ⌜ i + 4 ≤ length (now bytes) ⌝ }
     ensures { λ r. ⌜ r ≡ wordAt (now (bytes .entry)) i ⌝ }
 {
@@ -29,7 +29,7 @@ pub fn word_at(bytes: &[u8], i: usize) -> u32
 }
 
 // Feeds n words from an offset on and keeps them from a place of the buffer on.
-pub fn fill(
+pub(crate) fn fill(
     frame: &mut [u32; 213],
     at: usize,
     crc: u32,

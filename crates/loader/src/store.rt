@@ -7,7 +7,7 @@ ghost use lib.Seq.{sets};
 ghost use Rattle.loader.specs.Memory.{bytesOf, storeWithin, buffered, stored};
 
 // Every byte becomes zero.
-pub fn clear(memory: &mut [u8])
+pub(crate) fn clear(memory: &mut [u8])
     ensures { λ _. ⌜ now (memory .exit) ≡ replicate (length (now (memory .entry))) 0 ⌝ }
 {
     let mut i: usize = 0;
@@ -75,7 +75,7 @@ fn keep(frame: &mut [u32; 213], at: u32, word: u32)
 }
 
 // What an event does to the buffer and to the memory.
-pub fn apply(event: Event, words: u32, frame: &mut [u32; 213], memory: &mut [u8])
+pub(crate) fn apply(event: Event, words: u32, frame: &mut [u32; 213], memory: &mut [u8])
     requires { ⌜ words ≤ 213 ⌝ }
     ensures { λ _. ⌜ now (frame .exit) ≡ buffered event (now (frame .entry)) ⌝ }
     ensures { λ _. ⌜ now (memory .exit) ≡ stored words event (now (frame .entry)) (now (memory .entry)) ⌝ }

@@ -223,7 +223,7 @@ fn step_words(
 }
 
 // The next bytes, as many as one step can take.
-pub fn advance(
+pub(crate) fn advance(
     phase: Phase,
     control: Control,
     words: u32,
