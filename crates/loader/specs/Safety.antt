@@ -2,8 +2,9 @@
 -- as the joined load. Each is config's theorem for a byte, carried over the bytes of a run.
 use mathlib.Core.Path.{_≡_, _∙_, refl, sym, ap}
 use mathlib.Core.List.{List, _∷_, _++_}
-use mathlib.Core.Bool.{true}
+use mathlib.Core.Bool.{Bool, true, false}
 use Prim.Native.Nat.{ℕ, _≤_}
+use native.Mathlib.Decide.{ℕ-discrete}
 use native.Mathlib.Omega.{arith}
 use lib.ListN.{length}
 use Rattle.config.specs.Part.{lengthAt}
@@ -19,9 +20,10 @@ use Rattle.config.specs.declared.Stop.{Stop}
 use Rattle.config.specs.declared.Bytes.the-variants as Bytes
 use Rattle.config.specs.declared.Phase.{Phase}
 use Rattle.config.specs.declared.Phase.the-variants as Phase
-use Rattle.loader.specs.Run.{ran, run}
-use Rattle.loader.specs.Load.{load}
-use Rattle.loader.specs.Pieces.{run-invariant, taken-le, load-accepted, Verdict, verdict, accepted-again, later, load-append}
+use Rattle.loader.specs.Run.{isStopped, ran, run}
+use Rattle.loader.specs.Load.{Outcome, answerOf, memoryAt, load}
+use Rattle.loader.specs.declared.Answer.the-variants as Answer
+use Rattle.loader.specs.Pieces.{run-invariant, taken-le, taken-all, load-accepted, load-inconsistent, load-wrong-memory, Verdict, verdict, accepted-again, later, load-append}
 use Rattle.loader.specs.Words.{takesWords, partial-empty, fedWord, word-run}
 use Rattle.loader.specs.Words.{word-stops as run-stops}
 use Rattle.loader.specs.Frames.{length-fits}
@@ -45,6 +47,28 @@ load-taken d m xs = go (verdict d m)
     go : Verdict d m → load d m xs .taken ≤ length xs
     go (Verdict.accepts ok) = rw (load-accepted d m xs ok) (taken-le d m xs)
     go (Verdict.refuses a no-load) = rw (no-load xs) (omega arith)
+
+-- and with stop 0 they are all of it
+done-runs : (p : Phase) → answerOf p ≡ Answer.Done → isStopped p ≡ false
+unfolding answerOf isStopped
+done-runs (Phase.Hunting b) h = refl
+done-runs (Phase.Header o) h = refl
+done-runs (Phase.Data r left filled) h = refl
+done-runs Phase.Crc h = refl
+done-runs (Phase.Stopped s) h = let z : _≡_ {A = ℕ} 0 1 = cc in absurd (omega arith)
+
+pub load-all : (d : Device) (m xs : List ℕ) → load d m xs .answer ≡ Answer.Done → load d m xs .taken ≡ length xs
+load-all d m xs h = go (consistent (d .phase) (d .control)) refl
+  where
+    go : (t : Bool) → consistent (d .phase) (d .control) ≡ t → load d m xs .taken ≡ length xs
+    go false c = let z : _≡_ {A = ℕ} 0 1 = cc (ap (λ (o : Outcome). o .answer) (load-inconsistent d m xs c)) in absurd (omega arith)
+    go true c =
+        elim (ℕ-discrete (length m) (memoryAt (d .control .device))) [
+          | yes e ↦
+              let ok = load-accepted d m xs (record { fits = c; sized = e }) in
+              ap (λ (o : Outcome). o .taken) ok ∙ taken-all d m xs (done-runs _ (sym (ap (λ (o : Outcome). o .answer) ok) ∙ h))
+          | no n ↦ let z : _≡_ {A = ℕ} 0 1 = cc (ap (λ (o : Outcome). o .answer) (load-wrong-memory d m xs c n)) in absurd (omega arith)
+        ]
 
 -- no load clears started, buffer_valid, idcode_ok or flr_ok
 pub run-grown : (d : Device) (m xs : List ℕ) → Grown (d .control .flags) (run d m xs .device .control .flags)
