@@ -10,6 +10,7 @@ use lib.Dec.{eqb}
 use lib.ListN.{length, getD, drop, set, length-append, drop-of-length-le}
 use lib.Seq.{sets, sets-eq, drop-cons, drop-drop}
 use Rattle.loader.specs.Memory.{bytesOf}
+use Rattle.loader.specs.Frames.{bytes-length}
 use Rattle.config.specs.declared.Phase.{Phase}
 use Rattle.config.specs.declared.Control.{Control}
 use Rattle.loader.specs.declared.Device.{Device}
@@ -23,11 +24,6 @@ pub bytes-append : (xs ys : List ℕ) → bytesOf (xs ++ ys) ≡ bytesOf xs ++ b
 unfolding bytesOf
 bytes-append [] ys = refl
 bytes-append (x ∷ xs) ys = ap (λ bs. x / 2 ^ 24 % 2 ^ 8 ∷ x / 2 ^ 16 % 2 ^ 8 ∷ x / 2 ^ 8 % 2 ^ 8 ∷ x % 2 ^ 8 ∷ bs) (bytes-append xs ys)
-
-pub bytes-length : (xs : List ℕ) → length (bytesOf xs) ≡ 4 * length xs
-unfolding bytesOf
-bytes-length [] = refl
-bytes-length (x ∷ xs) = omega (arith, bytes-length xs)
 
 -- ---- runs of stores
 

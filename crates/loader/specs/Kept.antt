@@ -16,7 +16,7 @@ use Rattle.config.specs.declared.Event.the-variants as Event
 use Rattle.loader.specs.Memory.{storeWithin, frameOf, buffered, stored}
 use Rattle.loader.specs.Run.{isStopped, fedByte, run}
 use Rattle.loader.specs.Load.{load}
-use Rattle.loader.specs.Pieces.{next, nextMemory, run-induction, run-invariant, load-accepted, Verdict, verdict}
+use Rattle.loader.specs.Pieces.{next, nextMemory, run-induction, run-invariant, load-cases}
 use Rattle.loader.specs.Frames.{store-length, store-other}
 use Rattle.loader.specs.declared.Device.{Device}
 
@@ -99,8 +99,4 @@ module _ (l : ℕ) where
 
   -- a load that is refused changes nothing
   pub load-keeps : (d : Device) (m xs : List ℕ) → lengthAt (d .control .device) ≡ l → l ≤ length (d .frame) → Kept l (stores d xs) m (load d m xs .memory)
-  load-keeps d m xs hl full = go (verdict d m)
-    where
-      go : Verdict d m → Kept l (stores d xs) m (load d m xs .memory)
-      go (Verdict.accepts ok) = rw (load-accepted d m xs ok) (run-keeps d m xs hl full)
-      go (Verdict.refuses a no-load) = rw (no-load xs) kept-same
+  load-keeps d m xs hl full = load-cases (λ o. Kept l (stores d xs) m (o .memory)) d m xs (run-keeps d m xs hl full) (λ a. kept-same)

@@ -5,6 +5,7 @@ pub mod Pieces
 pub mod Words
 pub mod Frames
 pub mod Kept
+pub mod Bounds
 pub mod Safety
 pub mod Fill
 pub mod Turn

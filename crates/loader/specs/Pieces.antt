@@ -129,6 +129,14 @@ verdict d m = go (consistent (d .phase) (d .control)) (eqb (length m) (memoryAt 
     go true false h e = Verdict.refuses Answer.WrongMemory (λ xs. load-wrong-memory d m xs h (eqb-false _ _ e))
     go false t h e = Verdict.refuses Answer.Inconsistent (λ xs. load-inconsistent d m xs h)
 
+-- what holds of the run and of every refusal holds of the load
+pub load-cases : (P : Outcome → Type 0) (d : Device) (m xs : List ℕ) → P (finished (run d m xs)) → ((a : Answer) → P (refused a d m)) → P (load d m xs)
+load-cases P d m xs ran-so refused-so = go (verdict d m)
+  where
+    go : Verdict d m → P (load d m xs)
+    go (Verdict.accepts ok) = rw (load-accepted d m xs ok) ran-so
+    go (Verdict.refuses a no-load) = rw (no-load xs) (refused-so a)
+
 -- no load refuses what is left of a record and a memory that none refused
 pub accepted-again : (d : Device) (m : List ℕ) (r : Ran) → Accepted d m → consistent (r .device .phase) (r .device .control) ≡ true
     → length (r .memory) ≡ length m → r .device .control .device ≡ d .control .device → Accepted (r .device) (r .memory)

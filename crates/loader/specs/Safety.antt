@@ -20,10 +20,10 @@ use Rattle.config.specs.declared.Stop.{Stop}
 use Rattle.config.specs.declared.Bytes.the-variants as Bytes
 use Rattle.config.specs.declared.Phase.{Phase}
 use Rattle.config.specs.declared.Phase.the-variants as Phase
-use Rattle.loader.specs.Run.{isStopped, ran, run}
+use Rattle.loader.specs.Run.{isStopped, Ran, ran, run}
 use Rattle.loader.specs.Load.{Outcome, answerOf, memoryAt, load}
 use Rattle.loader.specs.declared.Answer.the-variants as Answer
-use Rattle.loader.specs.Pieces.{run-invariant, taken-le, taken-all, load-accepted, load-inconsistent, load-wrong-memory, Verdict, verdict, accepted-again, later, load-append}
+use Rattle.loader.specs.Pieces.{run-invariant, run-append, taken-le, taken-all, load-accepted, load-inconsistent, load-wrong-memory, load-cases, accepted-again, later, load-append}
 use Rattle.loader.specs.Words.{takesWords, partial-empty, fedWord, word-run}
 use Rattle.loader.specs.Words.{word-stops as run-stops}
 use Rattle.loader.specs.Frames.{length-fits}
@@ -34,19 +34,11 @@ pub run-consistent : (d : Device) (m xs : List ℕ) → consistent (d .phase) (d
 run-consistent = run-invariant (λ e _. consistent (e .phase) (e .control) ≡ true) (λ e _ x _ i. byte-consistent (e .phase) (e .control) x i)
 
 pub load-consistent : (d : Device) (m xs : List ℕ) → consistent (d .phase) (d .control) ≡ true → consistent (load d m xs .device .phase) (load d m xs .device .control) ≡ true
-load-consistent d m xs h = go (verdict d m)
-  where
-    go : Verdict d m → consistent (load d m xs .device .phase) (load d m xs .device .control) ≡ true
-    go (Verdict.accepts ok) = rw (load-accepted d m xs ok) (run-consistent d m xs h)
-    go (Verdict.refuses a no-load) = rw (no-load xs) h
+load-consistent d m xs h = load-cases (λ o. consistent (o .device .phase) (o .device .control) ≡ true) d m xs (run-consistent d m xs h) (λ a. h)
 
 -- the bytes taken never exceed the piece
 pub load-taken : (d : Device) (m xs : List ℕ) → load d m xs .taken ≤ length xs
-load-taken d m xs = go (verdict d m)
-  where
-    go : Verdict d m → load d m xs .taken ≤ length xs
-    go (Verdict.accepts ok) = rw (load-accepted d m xs ok) (taken-le d m xs)
-    go (Verdict.refuses a no-load) = rw (no-load xs) (omega arith)
+load-taken d m xs = load-cases (λ o. o .taken ≤ length xs) d m xs (taken-le d m xs) (λ a. omega arith)
 
 -- and with stop 0 they are all of it
 done-runs : (p : Phase) → answerOf p ≡ Answer.Done → isStopped p ≡ false
@@ -76,6 +68,9 @@ run-grown d m xs =
     run-invariant (λ e _. Grown (d .control .flags) (e .control .flags))
     (λ e _ x _ i. grown-trans (d .control .flags) (e .control .flags) (byte (e .phase) (e .control) x .control .flags) i (byte-keeps (e .phase) (e .control) x .flags)) d m xs (grown-refl (d .control .flags))
 
+pub load-grown : (d : Device) (m xs : List ℕ) → Grown (d .control .flags) (load d m xs .device .control .flags)
+load-grown d m xs = load-cases (λ o. Grown (d .control .flags) (o .device .control .flags)) d m xs (run-grown d m xs) (λ a. grown-refl (d .control .flags))
+
 -- 01: "A load by pieces, cut at any byte, ends as the joined load"; the buffer of a record has 213 words
 pub load-pieces : (d : Device) (m a b : List ℕ) → length (d .frame) ≡ 213
     → load d m (a ++ b) ≡ later (load d m a .taken) (load (load d m a .device) (load d m a .memory) b)
@@ -102,3 +97,12 @@ stop-leaves d m a b c e rest s takes empty stops =
     run-stops d takes m a b c e rest s empty stops (ap (λ (f : Fed). f .event) all)
     ∙ ap (λ (k : Control). ran (record { phase = Phase.Stopped s; control = k; frame = d .frame }) m 4)
     (ap (λ (f : Fed). f .control) all ∙ ap (λ (k : Control). leftAt s k w) (partial-empty (d .control) empty))
+
+-- "A stopped load keeps the frames already stored": whatever was taken before the bad word, its memory stays
+pub stop-keeps : (d : Device) (m xs : List ℕ) (a b c e : ℕ) (rest : List ℕ) (s : Stop)
+    → let k = run d m xs .device in
+    takesWords (k .phase) ≡ true → k .control .partial ≡ Bytes.Zero → fedWord k (wordOf a b c e) .phase ≡ Phase.Stopped s
+    → run d m (xs ++ a ∷ b ∷ c ∷ e ∷ rest) .memory ≡ run d m xs .memory
+stop-keeps d m xs a b c e rest s takes empty stops =
+    ap (λ (r : Ran). r .memory) (run-append d m xs (a ∷ b ∷ c ∷ e ∷ rest))
+    ∙ ap (λ (r : Ran). r .memory) (stop-leaves (run d m xs .device) (run d m xs .memory) a b c e rest s takes empty stops)

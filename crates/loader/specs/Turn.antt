@@ -4,13 +4,9 @@ use mathlib.Core.Path.{_≡_, refl}
 use mathlib.Core.List.{List}
 use mathlib.Core.Bool.{true, false}
 use Prim.Native.Nat.{ℕ, _+_, _-_, _*_, _≤_, _<_}
-use native.Mathlib.Decide.{decLe}
 use native.Mathlib.Omega.{arith}
 use lib.ListN.{length, getD, drop}
-use borrow.Author.Tests.{le-ltb}
-use Rattle.parts.specs.Device.{partOf, figureOf, valueOf}
 use Rattle.config.specs.Part.{lengthAt}
-use Rattle.config.specs.Figures.{figures}
 use Rattle.config.specs.Keeps.{word-keeps, byte-keeps}
 use Rattle.config.specs.Words.{word}
 use Rattle.config.specs.Bytes.{byte}
@@ -32,15 +28,6 @@ pub record Turn (d : Device) (m : List ℕ) (e : Device) (k : List ℕ) (s : Lis
   pub within : i + n ≤ length s
   pub same : e .control .device ≡ d .control .device
   pub runs : run d m (drop i s) ≡ after n (run e k (drop (i + n) s))
-
--- no frame is longer than the buffer
-pub length-small : (d : ℕ) → lengthAt d ≤ 213
-unfolding partOf figureOf valueOf
-length-small d =
-    elim (decLe d 7) [
-      | yes h ↦ figures d h .length-limit
-      | no h ↦ simp (le-ltb d 8 (omega arith)) (omega arith)
-    ]
 
 module _ (p : Phase) (c : Control) (f m s : List ℕ) (i : ℕ) where
   pub byte-turn : isStopped p ≡ false → i < length s →

@@ -1,6 +1,7 @@
 -- What the C interface makes of a record's image: power-on and load.
 -- Source: include/seamwillow.h.
 use mathlib.Core.Path.{_≡_, _∙_, refl}
+use mathlib.Core.Logic.{_≢_}
 use Prim.Native.Nat.{ℕ}
 use mathlib.Core.List.{List}
 use mathlib.Core.Bool.{true, false, cond, and-eq-true-iff}
@@ -8,8 +9,8 @@ use lib.Dec.{eqb}
 use lib.ListN.{length}
 use borrow.Author.Tests.{eq-eqb, ne-eqb}
 use Rattle.config.specs.Consistent.{consistent}
-use Rattle.loader.specs.Load.{Outcome, answerNumber, powerOn, load}
-use Rattle.loader.specs.Pieces.{load-inconsistent}
+use Rattle.loader.specs.Load.{Outcome, answerNumber, memoryAt, powerOn, load}
+use Rattle.loader.specs.Pieces.{load-inconsistent, load-wrong-memory}
 use Rattle.image.specs.Image.{encoded}
 use Rattle.image.specs.Decode.{decoded}
 use Rattle.image.specs.Compare.{isImage, accepted}
@@ -42,7 +43,7 @@ loadedImage r m s = cond (accepted r) (resultOf (load (decoded r) m s) r) (refus
 -- ---- in each case
 
 module _ (d : ℕ) (r m : List ℕ) where
-  pub powered-refused : (length r ≡ 948 → ⊥) → poweredImage d r m ≡ refusedImage r m
+  pub powered-refused : length r ≢ 948 → poweredImage d r m ≡ refusedImage r m
   unfolding poweredImage
   powered-refused h = rw (ne-eqb (length r) 948 h)
 
@@ -65,3 +66,11 @@ module _ (r m s : List ℕ) where
   inconsistent-refused a h =
       let sized = and-eq-true-iff (eqb (length r) 948) _ .0 a .0 in
       loaded-done a ∙ rw (load-inconsistent (decoded r) m s h, sized, accepted-image r a)
+
+  -- and 23 leaves the image, the memory and the count in the same way
+  pub wrong-memory-refused : accepted r ≡ true → consistent (decoded r .phase) (decoded r .control) ≡ true
+      → length m ≢ memoryAt (decoded r .control .device) → loadedImage r m s ≡ record { code = 23; image = r; memory = m; taken = 0 }
+  unfolding encoded isImage answerNumber
+  wrong-memory-refused a h n =
+      let sized = and-eq-true-iff (eqb (length r) 948) _ .0 a .0 in
+      loaded-done a ∙ rw (load-wrong-memory (decoded r) m s h n, sized, accepted-image r a)

@@ -2,7 +2,8 @@
 -- By the turn of what the control machine makes of the byte, which `finish` applies.
 use borrow.Author.Needs.{needs}
 use denote.Ref.{now}
-use Rattle.loader.specs.Turn.{length-small, byte-turn, fed-turn}
+use Rattle.loader.specs.Frames.{length-fits}
+use Rattle.loader.specs.Turn.{byte-turn, fed-turn}
 use Rattle.loader.proofs.turn.step_byte.Statement.{statement}
 use Rattle.loader.proofs.turn.step_byte.Tie as tie
 
@@ -13,7 +14,7 @@ byte-requires : tie.Need-byte-requires
 byte-requires c κs = search needs
 
 finish-requires : tie.Need-finish-requires
-finish-requires c κs = rw (c .before .before .before .before .before .before .pre .2) (length-small _)
+finish-requires c κs = rw (c .before .before .before .before .before .before .pre .2) (length-fits _)
 
 same-length : tie.Need-same-length
 same-length c = search needs

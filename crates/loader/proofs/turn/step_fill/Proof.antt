@@ -3,12 +3,13 @@
 use native.Mathlib.Omega.{arith}
 use borrow.Author.Needs.{needs}
 use denote.Ref.{now}
-use Rattle.loader.specs.Turn.{length-small, fill-turn}
+use Rattle.loader.specs.Frames.{length-fits}
+use Rattle.loader.specs.Turn.{fill-turn}
 use Rattle.loader.proofs.turn.step_fill.Statement.{statement}
 use Rattle.loader.proofs.turn.step_fill.Tie as tie
 
 fill-requires : tie.Need-fill-requires
-fill-requires c κs = (omega (arith, length-small (c .before .before .before .args .control .device)), c .before .before .before .pre .3)
+fill-requires c κs = (omega (arith, length-fits (c .before .before .before .args .control .device)), c .before .before .before .pre .3)
 
 sub-t18 : tie.Need-sub-t18
 sub-t18 c = search needs

@@ -2,7 +2,8 @@
 -- By the turn of what the control machine makes of the word, which `finish` applies.
 use borrow.Author.Needs.{needs}
 use denote.Ref.{now}
-use Rattle.loader.specs.Turn.{length-small, word-turn, fed-turn}
+use Rattle.loader.specs.Frames.{length-fits}
+use Rattle.loader.specs.Turn.{word-turn, fed-turn}
 use Rattle.loader.proofs.turn.step_word.Statement.{statement}
 use Rattle.loader.proofs.turn.step_word.Tie as tie
 
@@ -13,7 +14,7 @@ word-requires : tie.Need-word-requires
 word-requires c κs = search needs
 
 finish-requires : tie.Need-finish-requires
-finish-requires c κs = rw (c .before .before .before .before .before .before .pre .3) (length-small _)
+finish-requires c κs = rw (c .before .before .before .before .before .before .pre .3) (length-fits _)
 
 same-length : tie.Need-same-length
 same-length c = search needs

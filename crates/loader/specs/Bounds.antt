@@ -1,0 +1,63 @@
+-- From a consistent record every store finds its frame in the memory, and no load touches the buffer's words from L on.
+-- By the place that config proves for each event: a word under L, a frame under F.
+use mathlib.Core.Path.{_≡_, _∙_, refl, ap}
+use mathlib.Core.List.{List}
+use mathlib.Core.Bool.{true}
+use Prim.Native.Nat.{ℕ, _+_, _*_, _≤_}
+use lib.ListN.{length, drop}
+use lib.Seq.{drop-set-lt}
+use Rattle.config.specs.Part.{lengthAt}
+use Rattle.config.specs.Consistent.{consistent}
+use Rattle.config.specs.Consistency.{byte-consistent}
+use Rattle.config.specs.Keeps.{byte-keeps}
+use Rattle.config.specs.Events.{Placed, byte-placed}
+use Rattle.config.specs.declared.Control.{Control}
+use Rattle.config.specs.declared.Event.{Event}
+use Rattle.config.specs.declared.Event.the-variants as Event
+use Rattle.loader.specs.Memory.{buffered}
+use Rattle.loader.specs.Run.{fedByte, run}
+use Rattle.loader.specs.Load.{memoryAt}
+use Rattle.loader.specs.Pieces.{run-invariant, Accepted}
+use Rattle.loader.specs.Frames.{frame-fits}
+use Rattle.loader.specs.declared.Device.{Device}
+
+-- the frame that an event stores, of l words, lies in the memory
+abbrev pub Lands : ℕ → List ℕ → Event → Type 0
+Lands l m Event.Nothing = Unit {0}
+Lands l m (Event.Keep at w) = Unit {0}
+Lands l m (Event.KeepAndStore at w n) = 4 * l * n + 4 * l ≤ length m
+Lands l m (Event.Store n) = 4 * l * n + 4 * l ≤ length m
+
+lands : (c : Control) (m : List ℕ) (e : Event) → length m ≡ memoryAt (c .device) → Placed c e → Lands (lengthAt (c .device)) m e
+lands c m Event.Nothing sized p = tt
+lands c m (Event.Keep at w) sized p = tt
+lands c m (Event.KeepAndStore at w n) sized p = rw sized (frame-fits (c .device) n (p .target .inside))
+lands c m (Event.Store n) sized p = rw sized (frame-fits (c .device) n (p .target .inside))
+
+-- so the memory after an event is `storeFrame`'s wherever it stores
+pub byte-lands : (d : Device) (m : List ℕ) (x : ℕ) → Accepted d m → Lands (lengthAt (d .control .device)) m (fedByte d x .event)
+byte-lands d m x ok = lands (d .control) m (fedByte d x .event) (ok .sized) (byte-placed (d .phase) (d .control) x (ok .fits))
+
+spare : (l : ℕ) (c : Control) (e : Event) (f : List ℕ) → lengthAt (c .device) ≡ l → Placed c e → drop l (buffered e f) ≡ drop l f
+unfolding buffered
+spare l c Event.Nothing f h p = refl
+spare l c (Event.Keep at w) f h p = drop-set-lt l f at w (rw h at (p .below))
+spare l c (Event.KeepAndStore at w n) f h p = drop-set-lt l f at w (rw h at (p .place .below))
+spare l c (Event.Store n) f h p = refl
+
+-- the record e of a run from d
+record Spared (d e : Device) : Type 0 where
+  fits : consistent (e .phase) (e .control) ≡ true
+  same : e .control .device ≡ d .control .device
+  words : drop (lengthAt (d .control .device)) (e .frame) ≡ drop (lengthAt (d .control .device)) (d .frame)
+
+-- 01: "a frame in hand of 213 words, of which the first L count"
+pub run-spares : (d : Device) (m xs : List ℕ) → consistent (d .phase) (d .control) ≡ true
+    → drop (lengthAt (d .control .device)) (run d m xs .device .frame) ≡ drop (lengthAt (d .control .device)) (d .frame)
+run-spares d m xs h =
+    run-invariant (λ e _. Spared d e)
+    (λ e _ x _ i. record {
+      fits = byte-consistent (e .phase) (e .control) x (i .fits);
+      same = byte-keeps (e .phase) (e .control) x .device ∙ i .same;
+      words = spare _ (e .control) (fedByte e x .event) (e .frame) (ap lengthAt (i .same)) (byte-placed (e .phase) (e .control) x (i .fits)) ∙ i .words;
+    }) d m xs (record { fits = h; same = refl; words = refl }) .words
