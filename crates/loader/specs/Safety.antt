@@ -1,6 +1,7 @@
 -- What every load keeps: a consistent record stays consistent, the four flags that stay set stay set, and a load by pieces ends
 -- as the joined load. Each is config's theorem for a byte, carried over the bytes of a run.
 use mathlib.Core.Path.{_≡_, _∙_, refl, sym, ap}
+use mathlib.Core.Logic.{_≢_}
 use mathlib.Core.List.{List, _∷_, _++_}
 use mathlib.Core.Bool.{Bool, true, false}
 use Prim.Native.Nat.{ℕ, _≤_}
@@ -98,11 +99,19 @@ stop-leaves d m a b c e rest s takes empty stops =
     ∙ ap (λ (k : Control). ran (record { phase = Phase.Stopped s; control = k; frame = d .frame }) m 4)
     (ap (λ (f : Fed). f .control) all ∙ ap (λ (k : Control). leftAt s k w) (partial-empty (d .control) empty))
 
--- "A stopped load keeps the frames already stored": whatever was taken before the bad word, its memory stays
-pub stop-keeps : (d : Device) (m xs : List ℕ) (a b c e : ℕ) (rest : List ℕ) (s : Stop)
-    → let k = run d m xs .device in
-    takesWords (k .phase) ≡ true → k .control .partial ≡ Bytes.Zero → fedWord k (wordOf a b c e) .phase ≡ Phase.Stopped s
-    → run d m (xs ++ a ∷ b ∷ c ∷ e ∷ rest) .memory ≡ run d m xs .memory
-stop-keeps d m xs a b c e rest s takes empty stops =
-    ap (λ (r : Ran). r .memory) (run-append d m xs (a ∷ b ∷ c ∷ e ∷ rest))
-    ∙ ap (λ (r : Ran). r .memory) (stop-leaves (run d m xs .device) (run d m xs .memory) a b c e rest s takes empty stops)
+module _ (d : Device) (m xs : List ℕ) (a b c e : ℕ) (rest : List ℕ) (s : Stop) where
+  -- the word a, b, c, e stops the run after the bytes xs
+  abbrev pub Stops : Type 0
+  Stops =
+      let k = run d m xs .device in
+      record { takes : takesWords (k .phase) ≡ true; empty : k .control .partial ≡ Bytes.Zero; stops : fedWord k (wordOf a b c e) .phase ≡ Phase.Stopped s }
+
+  -- 01: "Stops 1 to 10 keep frames stored before": the memory is what the bytes before the bad word have made of it
+  pub stop-keeps : Stops → run d m (xs ++ a ∷ b ∷ c ∷ e ∷ rest) .memory ≡ run d m xs .memory
+  stop-keeps h =
+      ap (λ (r : Ran). r .memory) (run-append d m xs (a ∷ b ∷ c ∷ e ∷ rest))
+      ∙ ap (λ (r : Ran). r .memory) (stop-leaves (run d m xs .device) (run d m xs .memory) a b c e rest s (h .takes) (h .empty) (h .stops))
+
+  -- so a loader that takes them back breaks the statement wherever they had changed a byte
+  pub undoing-breaks : Stops → run d m xs .memory ≢ m → run d m (xs ++ a ∷ b ∷ c ∷ e ∷ rest) .memory ≢ m
+  undoing-breaks h changed undone = changed (sym (stop-keeps h) ∙ undone)
