@@ -21,7 +21,7 @@ const PLAIN: [u32; 9] = [
     register::IDCODE,
 ];
 
-/// A write header's first bytes and the sync word's, so that a part word can become a good one.
+/// A write header's first bytes and the sync word's, so that a partial word can become a good one.
 const BEGINNINGS: [u32; 3] = [0x0030_0080, 0x0030_0040, 0x00AA_9955];
 
 fn image(words: &[u32]) -> Vec<u8> {

@@ -300,7 +300,7 @@ word-fine (Phase.Data r left filled) c w k = data-fine c (k .state) r left fille
 word-fine Phase.Crc c w k = crc-fine _ c w (k .state) (λ d. refl)
 word-fine (Phase.Stopped t) c w k = k
 
--- the part word is no item of consistency
+-- the partial word is no item of consistency
 partial-fits : (p : Phase) (b : Bytes) (c : Control) → phaseFits p (withPartial b c) ≡ phaseFits p c
 unfolding phaseFits dataFits
 partial-fits (Phase.Hunting a) b c = refl

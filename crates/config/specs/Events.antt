@@ -100,7 +100,7 @@ abbrev pub Placed : Control → Event → Type 0
 Placed c Event.Nothing = Unit {0}
 Placed c (Event.Keep at w) = Place c at
 Placed c (Event.KeepAndStore at w n) = record { place : Place c at; target : Target c n }
-Placed c (Event.Store n) = record { target : Target c n; in-hand : c .flags .«buffer_valid» ≡ true }
+Placed c (Event.Store n) = record { target : Target c n; buffer-valid : c .flags .«buffer_valid» ≡ true }
 
 place : (p : Phase) (c : Control) (left at : ℕ) → Consistent p c → p ≡ Phase.Data Register.Fdri left at → Place c at
 place p c left at k e =
@@ -111,15 +111,15 @@ target : (p : Phase) (c : Control) (n : ℕ) → Consistent p c → c .current �
 unfolding currentFits
 target p c n k e = record { current = e; inside = ltb-true _ _ (rw e at (k .state .current)) }
 
-in-hand : (p : Phase) (c : Control) (left filled : ℕ) → Consistent p c → p ≡ Phase.Data Register.Mfwr left filled → c .flags .«buffer_valid» ≡ true
+buffer-valid : (p : Phase) (c : Control) (left filled : ℕ) → Consistent p c → p ≡ Phase.Data Register.Mfwr left filled → c .flags .«buffer_valid» ≡ true
 unfolding phaseFits dataFits addressOf
-in-hand p c left filled k e = (simp and-eq-true-iff at (rw e at (k .phase))) .1 .1
+buffer-valid p c left filled k e = (simp and-eq-true-iff at (rw e at (k .phase))) .1 .1
 
 placed : (p : Phase) (c : Control) (w : ℕ) (e : Event) → Consistent p c → Asked p c w e → Placed c e
 placed p c w Event.Nothing k a = tt
 placed p c w (Event.Keep at v) k a = place p c (a .0) at k (a .1)
 placed p c w (Event.KeepAndStore at v n) k a = record { place = place p c (a .0) at k (a .1); target = target p c n k (a .3) }
-placed p c w (Event.Store n) k a = record { target = target p c n k (a .3); in-hand = in-hand p c (a .0) (a .1) k (a .2) }
+placed p c w (Event.Store n) k a = record { target = target p c n k (a .3); buffer-valid = buffer-valid p c (a .0) (a .1) k (a .2) }
 
 word-fits : (p : Phase) (c : Control) (w : ℕ) → Consistent p c → Placed c (word p c w .event)
 word-fits p c w k = placed p c w (word p c w .event) k (word-asked p c w)
@@ -129,7 +129,7 @@ word-placed p c w t = word-fits p c w (to-items p c t)
 
 -- ---- bytes
 
--- the part word is no part of what an event asks
+-- the partial word has no bearing on what an event asks
 partial-placed : (b : Bytes) (c : Control) (e : Event) → Placed (withPartial b c) e → Placed c e
 partial-placed b c Event.Nothing h = h
 partial-placed b c (Event.Keep at w) h = h

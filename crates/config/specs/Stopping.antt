@@ -1,4 +1,4 @@
--- A stop leaves the record as it was, with an emptied part word; only at stop 8 the CRC register has the word fed.
+-- A stop leaves the record as it was, with an emptied partial word; only at stop 8 the CRC register has the word fed.
 -- By the cases of each definition: an outcome either goes on or is a stop over the state that it is to leave.
 use mathlib.Core.Path.{_≡_, _∙_, refl, ap}
 use mathlib.Core.Bool.{Bool, true, false, false≢true}

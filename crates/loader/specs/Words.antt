@@ -1,5 +1,5 @@
--- Four bytes are a word: from an empty part word, four bytes do what the control machine makes of their word, and a word that
--- stops leaves the memory as it was, with its four bytes taken. Byte by byte: three bytes only fill the part word.
+-- Four bytes are a word: from an empty partial word, four bytes do what the control machine makes of their word, and a word that
+-- stops leaves the memory as it was, with its four bytes taken. Byte by byte: three bytes only fill the partial word.
 use mathlib.Core.Path.{_≡_, _∙_, refl, sym, ap}
 use mathlib.Core.List.{List, _∷_}
 use mathlib.Core.Bool.{Bool, true, false}
@@ -56,17 +56,17 @@ four-bytes r = ap (ran (r .device) (r .memory)) (omega arith)
 abbrev pub fedWord : Device → ℕ → Fed
 fedWord d w = word (d .phase) (withPartial Bytes.Zero (d .control)) w
 
--- the record with another part word, and what is made of a byte after it
-abbrev withPart : Bytes → Device → Device
-withPart b d = record { phase = d .phase; control = withPartial b (d .control); frame = d .frame }
+-- the record with another partial word, and what is made of a byte after it
+abbrev withBytes : Bytes → Device → Device
+withBytes b d = record { phase = d .phase; control = withPartial b (d .control); frame = d .frame }
 
-abbrev fedPart : Bytes → Device → ℕ → Fed
-fedPart b d x = gathered b (d .phase) (withPartial b (d .control)) x
+abbrev fedAfter : Bytes → Device → ℕ → Fed
+fedAfter b d x = gathered b (d .phase) (withPartial b (d .control)) x
 
 module _ (d : Device) (takes : takesWords (d .phase) ≡ true) where
-  part-run : (b : Bytes) (m : List ℕ) (x : ℕ) (xs : List ℕ)
-      → run (withPart b d) m (x ∷ xs) ≡ after 1 (run (deviceAfter (fedPart b d x) d) (memoryAfter (fedPart b d x) d m) xs)
-  part-run b m x xs = byte-run (withPart b d) m x xs (takes-bytes (d .phase) takes) ∙ rw (gathers (d .phase) (withPartial b (d .control)) x takes)
+  partial-run : (b : Bytes) (m : List ℕ) (x : ℕ) (xs : List ℕ)
+      → run (withBytes b d) m (x ∷ xs) ≡ after 1 (run (deviceAfter (fedAfter b d x) d) (memoryAfter (fedAfter b d x) d m) xs)
+  partial-run b m x xs = byte-run (withBytes b d) m x xs (takes-bytes (d .phase) takes) ∙ rw (gathers (d .phase) (withPartial b (d .control)) x takes)
 
   -- 01: "bytes are taken in fours, high byte first"
   pub word-run : (m : List ℕ) (a b c e : ℕ) (rest : List ℕ) → d .control .partial ≡ Bytes.Zero
@@ -74,7 +74,7 @@ module _ (d : Device) (takes : takesWords (d .phase) ≡ true) where
   unfolding gathered buffered stored
   word-run m a b c e rest empty =
       ap (λ (k : Control). run (record { phase = d .phase; control = k; frame = d .frame }) m (a ∷ b ∷ c ∷ e ∷ rest)) (sym (partial-empty (d .control) empty))
-      ∙ rw (part-run Bytes.Zero m a (b ∷ c ∷ e ∷ rest), part-run (Bytes.One a) m b (c ∷ e ∷ rest), part-run (Bytes.Two a b) m c (e ∷ rest), part-run (Bytes.Three a b c) m e rest)
+      ∙ rw (partial-run Bytes.Zero m a (b ∷ c ∷ e ∷ rest), partial-run (Bytes.One a) m b (c ∷ e ∷ rest), partial-run (Bytes.Two a b) m c (e ∷ rest), partial-run (Bytes.Three a b c) m e rest)
       (four-bytes _)
 
   module _ (m : List ℕ) (a b c e : ℕ) (rest : List ℕ) (s : Stop) (empty : d .control .partial ≡ Bytes.Zero)

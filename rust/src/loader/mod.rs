@@ -57,7 +57,7 @@ pub struct Flags {
 pub struct Device {
     pub number: u32,
     pub phase: Phase,
-    /// Bytes of a part word; while hunting, the last up to three.
+    /// Bytes of a partial word; while hunting, the last up to three.
     pub bytes: Vec<u8>,
     pub current: Option<u32>,
     pub flags: Flags,
