@@ -5,7 +5,7 @@ use mathlib.Core.Bool.{Bool, cond, _&&_}
 use lib.Dec.{eqb}
 use Rattle.config.specs.Control.{withPartial, fed}
 use Rattle.config.specs.Words.{word}
-use Rattle.config.specs.declared.Open.the-variants as Open
+use Rattle.registers.specs.declared.Open.the-variants as Open
 use Rattle.config.specs.declared.Bytes.{Bytes}
 use Rattle.config.specs.declared.Bytes.the-variants as Bytes
 use Rattle.config.specs.declared.Control.{Control}

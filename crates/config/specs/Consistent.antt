@@ -5,8 +5,8 @@ use Prim.Native.Nat.{ℕ, _+_, _%_}
 use mathlib.Core.Bool.{Bool, true, not, cond, _&&_}
 use lib.Dec.{eqb, leb, ltb}
 use Rattle.config.specs.Part.{lengthAt, countAt}
-use Rattle.config.specs.Registers.{isFdri, isMfwr}
-use Rattle.config.specs.declared.Register.{Register}
+use Rattle.registers.specs.Addresses.{isFdri, isMfwr}
+use Rattle.registers.specs.declared.Register.{Register}
 use Rattle.config.specs.declared.Current.{Current}
 use Rattle.config.specs.declared.Current.the-variants as Current
 use Rattle.config.specs.declared.Control.{Control}

@@ -9,8 +9,7 @@ use Rattle.config.specs.declared.Bytes.{Bytes}
 use Rattle.config.specs.declared.Control.{Control}
 use Rattle.config.specs.declared.Phase.{Phase}
 use Rattle.config.specs.declared.Phase.the-variants as Phase
-use Rattle.config.specs.declared.Stop.{Stop}
-use Rattle.config.specs.declared.Stop.the-variants as Stop
+use Rattle.answers.specs.declared.Stop.{Stop}
 use Rattle.config.specs.declared.Event.{Event}
 use Rattle.config.specs.declared.Event.the-variants as Event
 use Rattle.config.specs.declared.Fed.{Fed}
@@ -33,19 +32,6 @@ fed p c e = record { phase = p; control = c; event = e }
 -- 01: "The bad word is dropped: not fed, not kept, with nothing in the record changed but the phase and an emptied part word"
 abbrev pub stopped : Stop → Control → Fed
 stopped s c = fed (Phase.Stopped s) c Event.Nothing
-
--- 01's number of a stop
-unfoldable pub stopNumber : Stop → ℕ
-stopNumber Stop.BadHeader = 1
-stopNumber Stop.BadRegister = 2
-stopNumber Stop.ReadOperation = 3
-stopNumber Stop.WrongIdcode = 4
-stopNumber Stop.WrongFrameLength = 5
-stopNumber Stop.NotReady = 6
-stopNumber Stop.WrongCount = 7
-stopNumber Stop.CrcMismatch = 8
-stopNumber Stop.NoCurrentFrame = 9
-stopNumber Stop.UnknownCommand = 10
 
 -- ---- flags with one of them replaced
 

@@ -10,7 +10,7 @@ use Rattle.crc16.specs.Register.{feed}
 use Rattle.config.specs.Cases.{either}
 use Rattle.config.specs.Part.{idcodeAt, lengthAt, countAt}
 use Rattle.config.specs.Figures.{figures}
-use Rattle.config.specs.Registers.{addressOf}
+use Rattle.registers.specs.Addresses.{addressOf}
 use Rattle.config.specs.Control.{withPartial}
 use Rattle.config.specs.Packets.{headerWord}
 use Rattle.config.specs.Commands.{acted}
@@ -19,9 +19,9 @@ use Rattle.config.specs.Bytes.{gathered, wordOf, byte}
 use Rattle.config.specs.Consistent.{currentFits, dataFits, phaseFits, consistent}
 use Rattle.config.specs.Keeps.{header-plain}
 use Rattle.config.specs.Consistency.{Consistent, to-items, to-filling, partial-fine}
-use Rattle.config.specs.declared.Register.{Register}
-use Rattle.config.specs.declared.Register.the-variants as Register
-use Rattle.config.specs.declared.Open.{Open}
+use Rattle.registers.specs.declared.Register.{Register}
+use Rattle.registers.specs.declared.Register.the-variants as Register
+use Rattle.registers.specs.declared.Open.{Open}
 use Rattle.config.specs.declared.Current.{Current}
 use Rattle.config.specs.declared.Current.the-variants as Current
 use Rattle.config.specs.declared.Bytes.{Bytes}

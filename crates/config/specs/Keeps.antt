@@ -6,16 +6,16 @@ use Prim.Native.Nat.{ℕ, _+_}
 use lib.Dec.{eqb, leb, ltb}
 use Rattle.config.specs.Cases.{either}
 use Rattle.config.specs.Part.{idcodeAt, lengthAt}
-use Rattle.config.specs.Registers.{registerAt}
+use Rattle.registers.specs.Addresses.{registerAt}
 use Rattle.config.specs.Control.{withPartial, fed}
 use Rattle.config.specs.Packets.{ready, counted, begin, typeOneWrite, obeyed, packet, headerWord}
 use Rattle.config.specs.Commands.{desynced, signalled, acted}
 use Rattle.config.specs.Words.{checked, farWord, cmdWord, frameStored, fdriWord, mfwrStored, mfwrWord, idcodeWord, flrWord, dataWord, word}
 use Rattle.config.specs.Bytes.{gathered, wordOf, byte}
-use Rattle.config.specs.declared.Register.{Register}
-use Rattle.config.specs.declared.Register.the-variants as Register
-use Rattle.config.specs.declared.Open.{Open}
-use Rattle.config.specs.declared.Open.the-variants as Open
+use Rattle.registers.specs.declared.Register.{Register}
+use Rattle.registers.specs.declared.Register.the-variants as Register
+use Rattle.registers.specs.declared.Open.{Open}
+use Rattle.registers.specs.declared.Open.the-variants as Open
 use Rattle.config.specs.declared.Packet.{Packet}
 use Rattle.config.specs.declared.Packet.the-variants as Packet
 use Rattle.config.specs.declared.Current.{Current}

@@ -4,16 +4,16 @@ use Prim.Native.Nat.{ℕ, _/_, _%_, _^_}
 use mathlib.Core.Bool.{Bool, true, cond, _&&_}
 use lib.Dec.{eqb}
 use Rattle.config.specs.Part.{lengthAt}
-use Rattle.config.specs.Registers.{isFdri, isMfwr, registerAt}
+use Rattle.registers.specs.Addresses.{isFdri, isMfwr, registerAt}
 use Rattle.config.specs.Control.{fed, stopped}
-use Rattle.config.specs.declared.Register.{Register}
-use Rattle.config.specs.declared.Open.{Open}
-use Rattle.config.specs.declared.Open.the-variants as Open
+use Rattle.registers.specs.declared.Register.{Register}
+use Rattle.registers.specs.declared.Open.{Open}
+use Rattle.registers.specs.declared.Open.the-variants as Open
 use Rattle.config.specs.declared.Packet.{Packet}
 use Rattle.config.specs.declared.Packet.the-variants as Packet
 use Rattle.config.specs.declared.Control.{Control}
 use Rattle.config.specs.declared.Phase.the-variants as Phase
-use Rattle.config.specs.declared.Stop.the-variants as Stop
+use Rattle.answers.specs.declared.Stop.the-variants as Stop
 use Rattle.config.specs.declared.Event.the-variants as Event
 use Rattle.config.specs.declared.Fed.{Fed}
 

@@ -7,16 +7,17 @@ use lib.Dec.{eqb, leb, ltb}
 use Rattle.crc16.specs.Register.{feed}
 use Rattle.config.specs.Cases.{either}
 use Rattle.config.specs.Part.{idcodeAt, lengthAt}
-use Rattle.config.specs.Registers.{isFdri, registerAt, withCrc}
+use Rattle.registers.specs.Addresses.{isFdri, registerAt}
+use Rattle.config.specs.Registers.{withCrc}
 use Rattle.config.specs.Control.{withRegisters, withPartial, fed, stopped}
 use Rattle.config.specs.Packets.{ready, counted, begin, typeOneWrite, obeyed, packet}
 use Rattle.config.specs.Commands.{phaseAfter, acted}
 use Rattle.config.specs.Words.{ended, onward, checked, crcWord, farWord, cmdWord, frameStored, fdriWord, mfwrStored, mfwrWord, idcodeWord, flrWord, dataWord, word}
 use Rattle.config.specs.Bytes.{isSync, hunted, gathered, wordOf, byte}
-use Rattle.config.specs.declared.Register.{Register}
-use Rattle.config.specs.declared.Register.the-variants as Register
-use Rattle.config.specs.declared.Open.{Open}
-use Rattle.config.specs.declared.Open.the-variants as Open
+use Rattle.registers.specs.declared.Register.{Register}
+use Rattle.registers.specs.declared.Register.the-variants as Register
+use Rattle.registers.specs.declared.Open.{Open}
+use Rattle.registers.specs.declared.Open.the-variants as Open
 use Rattle.config.specs.declared.Packet.{Packet}
 use Rattle.config.specs.declared.Packet.the-variants as Packet
 use Rattle.config.specs.declared.Current.{Current}
@@ -26,8 +27,8 @@ use Rattle.config.specs.declared.Bytes.the-variants as Bytes
 use Rattle.config.specs.declared.Control.{Control}
 use Rattle.config.specs.declared.Phase.{Phase}
 use Rattle.config.specs.declared.Phase.the-variants as Phase
-use Rattle.config.specs.declared.Stop.{Stop}
-use Rattle.config.specs.declared.Stop.the-variants as Stop
+use Rattle.answers.specs.declared.Stop.{Stop}
+use Rattle.answers.specs.declared.Stop.the-variants as Stop
 use Rattle.config.specs.declared.Event.{Event}
 use Rattle.config.specs.declared.Fed.{Fed}
 

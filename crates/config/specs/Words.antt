@@ -5,19 +5,20 @@ use mathlib.Core.Bool.{Bool, cond}
 use lib.Dec.{eqb, leb, ltb}
 use Rattle.crc16.specs.Register.{feed}
 use Rattle.config.specs.Part.{idcodeAt, lengthAt, countAt, named}
-use Rattle.config.specs.Registers.{isFdri, withCrc, written}
+use Rattle.registers.specs.Addresses.{isFdri}
+use Rattle.config.specs.Registers.{withCrc, written}
 use Rattle.config.specs.Control.{withRegisters, withFlags, withCurrent, withIdcodeOk, withFlrOk, withBufferValid, withChecked, fed, stopped}
 use Rattle.config.specs.Packets.{headerWord}
 use Rattle.config.specs.Commands.{acted}
-use Rattle.config.specs.declared.Register.{Register}
-use Rattle.config.specs.declared.Register.the-variants as Register
-use Rattle.config.specs.declared.Open.the-variants as Open
+use Rattle.registers.specs.declared.Register.{Register}
+use Rattle.registers.specs.declared.Register.the-variants as Register
+use Rattle.registers.specs.declared.Open.the-variants as Open
 use Rattle.config.specs.declared.Current.{Current}
 use Rattle.config.specs.declared.Current.the-variants as Current
 use Rattle.config.specs.declared.Control.{Control}
 use Rattle.config.specs.declared.Phase.{Phase}
 use Rattle.config.specs.declared.Phase.the-variants as Phase
-use Rattle.config.specs.declared.Stop.the-variants as Stop
+use Rattle.answers.specs.declared.Stop.the-variants as Stop
 use Rattle.config.specs.declared.Event.{Event}
 use Rattle.config.specs.declared.Event.the-variants as Event
 use Rattle.config.specs.declared.Fed.{Fed}

@@ -2,10 +2,10 @@
 use crate::Control;
 use crate::Current;
 use crate::Phase;
-use crate::Register;
-use crate::address_of;
 use crate::figures::count_at;
 use crate::figures::length_at;
+use registers::Register;
+use registers::address_of;
 ghost use mathlib.Core.Path.{_≡_};
 ghost use Rattle.config.specs.Consistent.{currentFits, dataFits, phaseFits};
 

@@ -1,47 +1,16 @@
 // The configuration logic as a control machine: phase and control state in, a word or a byte, the next ones and an event out.
 // It holds no frame words and no memory; the loader applies the events.
 
+use answers::Stop;
+use registers::Open;
+use registers::Register;
+
 // Zero to three bytes: the sync window while hunting, the partial word after it.
 pub enum Bytes {
     Zero,
     One(u8),
     Two(u8, u8),
     Three(u8, u8, u8),
-}
-
-// The registers that can be written (001, Table 1).
-pub enum Register {
-    Crc,
-    Far,
-    Fdri,
-    Cmd,
-    Ctl,
-    Mask,
-    Lout,
-    Cor,
-    Mfwr,
-    Flr,
-    Idcode,
-}
-
-// Why a load stopped: 01's stops 1 to 10 in their order.
-pub enum Stop {
-    BadHeader,
-    BadRegister,
-    ReadOperation,
-    WrongIdcode,
-    WrongFrameLength,
-    NotReady,
-    WrongCount,
-    CrcMismatch,
-    NoCurrentFrame,
-    UnknownCommand,
-}
-
-// The register that a type 2 header would use, if the word before was a type 1 write of count 0.
-pub enum Open {
-    Closed,
-    After(Register),
 }
 
 // A header word: nothing to do (padding, no operation), a type 1 write to an address, a type 2 write to the open register, a
@@ -131,8 +100,6 @@ mod data; // data.rt: a data word to each register
 mod stream; // stream.rt: the hunt, and words from bytes
 
 ghost use mathlib.Core.Path.{_≡_};
-ghost use Rattle.config.specs.Registers.{addressOf, registerAt};
-ghost use Rattle.config.specs.Control.{stopNumber};
 ghost use Rattle.config.specs.Words.{word};
 ghost use Rattle.config.specs.Bytes.{byte};
 ghost use Rattle.config.specs.Consistent.{consistent};
@@ -185,24 +152,6 @@ pub fn byte(phase: Phase, control: Control, x: u8) -> Fed
     }
 }
 
-// 01's number of a stop.
-pub fn stop_number(stop: Stop) -> u32
-    ensures { λ r. ⌜ r ≡ stopNumber stop ⌝ }
-{
-    match stop {
-        Stop::BadHeader => 1,
-        Stop::BadRegister => 2,
-        Stop::ReadOperation => 3,
-        Stop::WrongIdcode => 4,
-        Stop::WrongFrameLength => 5,
-        Stop::NotReady => 6,
-        Stop::WrongCount => 7,
-        Stop::CrcMismatch => 8,
-        Stop::NoCurrentFrame => 9,
-        Stop::UnknownCommand => 10,
-    }
-}
-
 // Phase and control state are consistent.
 pub fn consistent(phase: Phase, control: Control) -> bool
     ensures { λ r. ⌜ r ≡ consistent phase control ⌝ }
@@ -221,43 +170,4 @@ pub fn consistent(phase: Phase, control: Control) -> bool
         return false;
     }
     checks::phase_fits(phase, control)
-}
-
-// The address of a register (001, Table 1).
-pub fn address_of(register: Register) -> u32
-    ensures { λ r. ⌜ r ≡ addressOf register ⌝ }
-{
-    match register {
-        Register::Crc => 0,
-        Register::Far => 1,
-        Register::Fdri => 2,
-        Register::Cmd => 4,
-        Register::Ctl => 5,
-        Register::Mask => 6,
-        Register::Lout => 8,
-        Register::Cor => 9,
-        Register::Mfwr => 10,
-        Register::Flr => 11,
-        Register::Idcode => 14,
-    }
-}
-
-// The register at an address, if there is one and it can be written.
-pub fn register_at(address: u32) -> Open
-    ensures { λ r. ⌜ r ≡ registerAt address ⌝ }
-{
-    match address {
-        0 => Open::After(Register::Crc),
-        1 => Open::After(Register::Far),
-        2 => Open::After(Register::Fdri),
-        4 => Open::After(Register::Cmd),
-        5 => Open::After(Register::Ctl),
-        6 => Open::After(Register::Mask),
-        8 => Open::After(Register::Lout),
-        9 => Open::After(Register::Cor),
-        10 => Open::After(Register::Mfwr),
-        11 => Open::After(Register::Flr),
-        14 => Open::After(Register::Idcode),
-        _ => Open::Closed,
-    }
 }

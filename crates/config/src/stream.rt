@@ -2,10 +2,10 @@
 use crate::Bytes;
 use crate::Control;
 use crate::Fed;
-use crate::Open;
 use crate::Phase;
 use crate::header::going;
 use crate::word;
+use registers::Open;
 ghost use mathlib.Core.Path.{_≡_};
 ghost use Rattle.config.specs.Control.{withPartial};
 ghost use Rattle.config.specs.Bytes.{isSync, hunted, wordOf, gathered};

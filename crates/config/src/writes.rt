@@ -1,7 +1,7 @@
 // A word written to a register.
-use crate::Register;
 use crate::Registers;
-use crate::address_of;
+use registers::Register;
+use registers::address_of;
 ghost use mathlib.Core.Path.{_≡_};
 ghost use Rattle.config.specs.Registers.{masked, hold, written};
 

@@ -5,10 +5,10 @@ use mathlib.Core.List.{List, [], _∷_, _++_}
 use mathlib.Core.Bool.{Bool, cond}
 use lib.Dec.{eqb}
 use lib.ListN.{length}
-use Rattle.config.specs.Registers.{addressOf, isFdri}
-use Rattle.config.specs.Control.{stopNumber}
-use Rattle.config.specs.declared.Open.{Open}
-use Rattle.config.specs.declared.Open.the-variants as Open
+use Rattle.registers.specs.Addresses.{addressOf, isFdri}
+use Rattle.answers.specs.Numbers.{stopNumber}
+use Rattle.registers.specs.declared.Open.{Open}
+use Rattle.registers.specs.declared.Open.the-variants as Open
 use Rattle.config.specs.declared.Bytes.{Bytes}
 use Rattle.config.specs.declared.Bytes.the-variants as Bytes
 use Rattle.config.specs.declared.Current.{Current}

@@ -3,14 +3,14 @@
 use Prim.Native.Nat.{ℕ, _^_, _≤_, _<_}
 use mathlib.Core.Bool.{Bool, true, false, cond}
 use native.Mathlib.Omega.{arith}
-use Rattle.config.specs.Registers.{addressOf, isFdri}
-use Rattle.config.specs.Control.{stopNumber}
-use Rattle.config.specs.declared.Register.{Register}
-use Rattle.config.specs.declared.Register.the-variants as Register
-use Rattle.config.specs.declared.Open.{Open}
-use Rattle.config.specs.declared.Open.the-variants as Open
-use Rattle.config.specs.declared.Stop.{Stop}
-use Rattle.config.specs.declared.Stop.the-variants as Stop
+use Rattle.registers.specs.Addresses.{addressOf, isFdri}
+use Rattle.answers.specs.Numbers.{stopNumber}
+use Rattle.registers.specs.declared.Register.{Register}
+use Rattle.registers.specs.declared.Register.the-variants as Register
+use Rattle.registers.specs.declared.Open.{Open}
+use Rattle.registers.specs.declared.Open.the-variants as Open
+use Rattle.answers.specs.declared.Stop.{Stop}
+use Rattle.answers.specs.declared.Stop.the-variants as Stop
 use Rattle.config.specs.declared.Bytes.{Bytes}
 use Rattle.config.specs.declared.Bytes.the-variants as Bytes
 use Rattle.config.specs.declared.Current.{Current}

@@ -6,7 +6,7 @@ use mathlib.Core.List.{List, [], _∷_}
 use mathlib.Core.Bool.{cond}
 use lib.Dec.{eqb}
 use lib.ListN.{length as length·}
-use Rattle.config.specs.Registers.{isFdri}
+use Rattle.registers.specs.Addresses.{isFdri}
 use Rattle.config.specs.declared.Bytes.{Bytes}
 use Rattle.config.specs.declared.Bytes.the-variants as Bytes
 use Rattle.config.specs.declared.Current.{Current}

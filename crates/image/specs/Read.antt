@@ -9,14 +9,14 @@ use lib.Dec.{eqb}
 use lib.ListN.{length, getD}
 use lib.Pow.{shr-shr}
 use borrow.Author.Tests.{ne-eqb}
-use Rattle.config.specs.Registers.{addressOf, registerAt}
-use Rattle.config.specs.Control.{stopNumber}
-use Rattle.config.specs.declared.Register.{Register}
-use Rattle.config.specs.declared.Register.the-variants as Register
-use Rattle.config.specs.declared.Open.{Open}
-use Rattle.config.specs.declared.Open.the-variants as Open
-use Rattle.config.specs.declared.Stop.{Stop}
-use Rattle.config.specs.declared.Stop.the-variants as Stop
+use Rattle.registers.specs.Addresses.{addressOf, registerAt}
+use Rattle.answers.specs.Numbers.{stopNumber}
+use Rattle.registers.specs.declared.Register.{Register}
+use Rattle.registers.specs.declared.Register.the-variants as Register
+use Rattle.registers.specs.declared.Open.{Open}
+use Rattle.registers.specs.declared.Open.the-variants as Open
+use Rattle.answers.specs.declared.Stop.{Stop}
+use Rattle.answers.specs.declared.Stop.the-variants as Stop
 use Rattle.config.specs.declared.Bytes.{Bytes}
 use Rattle.config.specs.declared.Bytes.the-variants as Bytes
 use Rattle.config.specs.declared.Current.{Current}

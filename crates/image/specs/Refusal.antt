@@ -5,7 +5,7 @@ use mathlib.Core.Bool.{Bool, true, false, cond, _&&_, and-eq-true-iff, false≢t
 use mathlib.Core.List.{List}
 use Prim.Native.Nat.{ℕ, _+_, _%_}
 use lib.Dec.{eqb, leb, ltb}
-use Rattle.config.specs.Registers.{isFdri, isMfwr}
+use Rattle.registers.specs.Addresses.{isFdri, isMfwr}
 use Rattle.config.specs.Part.{lengthAt}
 use Rattle.config.specs.Consistent.{currentFits, dataFits, phaseFits, consistent}
 use Rattle.config.specs.declared.Current.{Current}

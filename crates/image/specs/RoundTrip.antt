@@ -10,7 +10,7 @@ use borrow.Author.Tests.{eq-eqb, eqb-true}
 use lib.ListN.{length, getD, drop, drop-of-length-le, length-append}
 use lib.Seq.{drop-cons, drop-at}
 use lib.Pow.{shr-shr, shr-mod, split}
-use Rattle.config.specs.Registers.{isFdri}
+use Rattle.registers.specs.Addresses.{isFdri}
 use Rattle.config.specs.declared.Current.{Current}
 use Rattle.config.specs.declared.Current.the-variants as Current
 use Rattle.config.specs.declared.Control.{Control}

@@ -1,17 +1,17 @@
 // Bytes into the device record that they would be the image of.
 use crate::words::word_at;
+use answers::Stop;
 use config::Bytes;
 use config::Control;
 use config::Current;
 use config::Flags;
-use config::Open;
 use config::Phase;
-use config::Register;
 use config::Registers;
-use config::Stop;
 use loader::Device;
+use registers::Open;
+use registers::Register;
 ghost use mathlib.Core.Path.{_≡_};
-ghost use Rattle.config.specs.Registers.{registerAt};
+ghost use Rattle.registers.specs.Addresses.{registerAt};
 ghost use Rattle.image.specs.Decode.{openOf, registerOf, stopOf, pendingOf, phaseOf, partialOf, currentOf, flagsOf, registersOf, controlOf, wordsAt, decoded};
 
 // Word 2 of a header.
@@ -21,7 +21,7 @@ fn open_of(number: u32) -> Open
     if number == 0 {
         Open::Closed
     } else {
-        config::register_at(number - 1)
+        registers::register_at(number - 1)
     }
 }
 
@@ -29,7 +29,7 @@ fn open_of(number: u32) -> Open
 fn register_of(number: u32) -> Register
     ensures { λ r. ⌜ r ≡ registerOf number ⌝ }
 {
-    let opened = config::register_at(number);
+    let opened = registers::register_at(number);
     match opened {
         Open::Closed => Register::Crc,
         Open::After(register) => register,

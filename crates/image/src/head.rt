@@ -1,16 +1,16 @@
 // Words 0 to 23 of the image: phase and control state as numbers.
+use answers::Stop;
 use config::Bytes;
 use config::Control;
 use config::Current;
 use config::Flags;
-use config::Open;
 use config::Phase;
-use config::Register;
-use config::Stop;
+use registers::Open;
+use registers::Register;
 ghost use mathlib.Core.Path.{_≡_};
 ghost use Prim.Native.Nat.{_≤_};
-ghost use Rattle.config.specs.Registers.{addressOf};
-ghost use Rattle.config.specs.Control.{stopNumber};
+ghost use Rattle.registers.specs.Addresses.{addressOf};
+ghost use Rattle.answers.specs.Numbers.{stopNumber};
 ghost use Rattle.image.specs.Image.{phaseNumber, openNumber, subject as subjectOf, wordsLeft, wordsFilled};
 ghost use Rattle.image.specs.Image.{pending as pendingOf, bytesCount, bytesNumber, currentNumber, bit as bitOf, flagBits, headWords};
 
@@ -33,7 +33,7 @@ fn open_number(opened: Open) -> u32
 {
     match opened {
         Open::Closed => 0,
-        Open::After(register) => config::address_of(register) + 1,
+        Open::After(register) => registers::address_of(register) + 1,
     }
 }
 
@@ -48,9 +48,9 @@ fn subject(phase: Phase) -> u32
             register,
             left: _,
             filled: _,
-        } => config::address_of(register),
+        } => registers::address_of(register),
         Phase::Crc => 0,
-        Phase::Stopped(stop) => config::stop_number(stop),
+        Phase::Stopped(stop) => answers::stop_number(stop),
     }
 }
 
@@ -83,7 +83,7 @@ fn words_filled(phase: Phase) -> u32
             left: _,
             filled,
         } => {
-            if config::address_of(register) == 2 {
+            if registers::address_of(register) == 2 {
                 filled
             } else {
                 0

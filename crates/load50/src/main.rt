@@ -1,9 +1,9 @@
 // Loads standard input into a freshly powered XC3S50 and prints what came of it, in document 01's four lines.
+use answers::Answer;
 use config::Phase;
 use libc::STDERR_FILENO;
 use libc::STDIN_FILENO;
 use libc::STDOUT_FILENO;
-use loader::Answer;
 use loader::Device;
 
 // How many pieces are read at most: far beyond any stream, since a loop must end.
@@ -46,7 +46,7 @@ fn print_verdict(session: Session) {
     let device = session.device;
     let phase = device.phase;
     text(b"stop ");
-    number(loader::answer_number(answer) as u64);
+    number(answers::answer_number(answer) as u64);
     text(b"taken ");
     number(session.taken);
     print_phase(phase);
@@ -79,7 +79,7 @@ fn load_input(start: Device, memory: &mut [u8]) -> Session {
         let next = loaded.device;
         let answer = loaded.answer;
         taken += loaded.taken;
-        if loader::answer_number(answer) != 0 {
+        if answers::answer_number(answer) != 0 {
             return Session {
                 device: next,
                 answer: answer,

@@ -12,11 +12,12 @@ use lib.Seq.{drop-cons}
 use borrow.Author.Tests.{lt-ltb, lt-leb}
 use Rattle.crc16.specs.Register.{feed}
 use Rattle.config.specs.Part.{lengthAt}
-use Rattle.config.specs.Registers.{addressOf, fedCrc, hold}
+use Rattle.registers.specs.Addresses.{addressOf}
+use Rattle.config.specs.Registers.{fedCrc, hold}
 use Rattle.config.specs.Control.{withRegisters, withPartial, fed}
 use Rattle.config.specs.Words.{put, fdriWord, dataWord, word}
 use Rattle.config.specs.Bytes.{wordOf, gathered, byte}
-use Rattle.config.specs.declared.Register.the-variants as Register
+use Rattle.registers.specs.declared.Register.the-variants as Register
 use Rattle.config.specs.declared.Registers.{Registers}
 use Rattle.config.specs.declared.Bytes.the-variants as Bytes
 use Rattle.config.specs.declared.Control.{Control}

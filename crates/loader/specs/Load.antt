@@ -8,7 +8,6 @@ use lib.ListN.{length, replicate}
 use Rattle.parts.specs.Device.{figure, memoryLength, valueOf}
 use Rattle.parts.specs.declared.device.Figure.{Figure}
 use Rattle.parts.specs.declared.device.Figure.the-variants as Figure
-use Rattle.config.specs.Control.{stopNumber}
 use Rattle.config.specs.Consistent.{consistent}
 use Rattle.config.specs.declared.Bytes.the-variants as Bytes
 use Rattle.config.specs.declared.Current.the-variants as Current
@@ -17,16 +16,8 @@ use Rattle.config.specs.declared.Phase.{Phase}
 use Rattle.config.specs.declared.Phase.the-variants as Phase
 use Rattle.loader.specs.Run.{Ran, run}
 use Rattle.loader.specs.declared.Device.{Device}
-use Rattle.loader.specs.declared.Answer.{Answer}
-use Rattle.loader.specs.declared.Answer.the-variants as Answer
-
--- 01's number of an answer
-unfoldable pub answerNumber : Answer → ℕ
-answerNumber Answer.Done = 0
-answerNumber (Answer.Stopped s) = stopNumber s
-answerNumber Answer.UnknownDevice = 21
-answerNumber Answer.Inconsistent = 22
-answerNumber Answer.WrongMemory = 23
+use Rattle.answers.specs.declared.Answer.{Answer}
+use Rattle.answers.specs.declared.Answer.the-variants as Answer
 
 -- 01: "A load answers its stop number (0 for none)"
 unfoldable pub answerOf : Phase → Answer

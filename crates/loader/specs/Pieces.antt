@@ -14,12 +14,12 @@ use borrow.Author.Tests.{eq-eqb, ne-eqb, eqb-true, eqb-false}
 use Rattle.config.specs.Consistent.{consistent}
 use Rattle.config.specs.declared.Phase.{Phase}
 use Rattle.config.specs.declared.Phase.the-variants as Phase
-use Rattle.config.specs.declared.Stop.{Stop}
+use Rattle.answers.specs.declared.Stop.{Stop}
 use Rattle.loader.specs.Run.{isStopped, fedByte, deviceAfter, memoryAfter, Ran, ran, after, run}
 use Rattle.loader.specs.Load.{Outcome, answerOf, memoryAt, refused, finished, load}
 use Rattle.loader.specs.declared.Device.{Device}
-use Rattle.loader.specs.declared.Answer.{Answer}
-use Rattle.loader.specs.declared.Answer.the-variants as Answer
+use Rattle.answers.specs.declared.Answer.{Answer}
+use Rattle.answers.specs.declared.Answer.the-variants as Answer
 
 -- ---- a run
 

@@ -17,13 +17,13 @@ use Rattle.config.specs.Stopping.{leftAt, running, word-stops}
 use Rattle.config.specs.Bytes.{wordOf, byte}
 use Rattle.config.specs.declared.Control.{Control}
 use Rattle.config.specs.declared.Fed.{Fed}
-use Rattle.config.specs.declared.Stop.{Stop}
+use Rattle.answers.specs.declared.Stop.{Stop}
 use Rattle.config.specs.declared.Bytes.the-variants as Bytes
 use Rattle.config.specs.declared.Phase.{Phase}
 use Rattle.config.specs.declared.Phase.the-variants as Phase
 use Rattle.loader.specs.Run.{isStopped, Ran, ran, run}
 use Rattle.loader.specs.Load.{Outcome, answerOf, memoryAt, load}
-use Rattle.loader.specs.declared.Answer.the-variants as Answer
+use Rattle.answers.specs.declared.Answer.the-variants as Answer
 use Rattle.loader.specs.Pieces.{run-invariant, run-append, taken-le, taken-all, load-accepted, load-inconsistent, load-wrong-memory, load-cases, accepted-again, later, load-append}
 use Rattle.loader.specs.Words.{takesWords, partial-empty, fedWord, word-run}
 use Rattle.loader.specs.Words.{word-stops as run-stops}

@@ -10,7 +10,7 @@ use Rattle.config.specs.Part.{lengthAt}
 use Rattle.config.specs.Keeps.{word-keeps, byte-keeps}
 use Rattle.config.specs.Words.{word}
 use Rattle.config.specs.Bytes.{byte}
-use Rattle.config.specs.declared.Register.the-variants as Register
+use Rattle.registers.specs.declared.Register.the-variants as Register
 use Rattle.config.specs.declared.Bytes.the-variants as Bytes
 use Rattle.config.specs.declared.Control.{Control}
 use Rattle.config.specs.declared.Fed.{Fed}

@@ -3,32 +3,23 @@ mod fill; // fill.rt: words of an FDRI packet that only fill the buffer
 mod store; // store.rt: the buffer and the memory
 mod turn; // turn.rt: the next bytes of a piece
 
+use answers::Answer;
 use config::Bytes;
 use config::Control;
 use config::Current;
 use config::Flags;
 use config::Phase;
 use config::Registers;
-use config::Stop;
 ghost use mathlib.Core.Path.{_≡_};
 ghost use Rattle.config.specs.Consistent.{consistent};
 ghost use Rattle.loader.specs.Run.{isStopped, run};
-ghost use Rattle.loader.specs.Load.{answerNumber, answerOf, fresh, powerOn, load};
+ghost use Rattle.loader.specs.Load.{answerOf, fresh, powerOn, load};
 
 // The device record. Of the frame buffer the first L words count.
 pub struct Device {
     pub phase: Phase,
     pub control: Control,
     pub frame: [u32; 213],
-}
-
-// What a call answers: done, a stop, or a refusal.
-pub enum Answer {
-    Done,
-    Stopped(Stop),
-    UnknownDevice,
-    Inconsistent,
-    WrongMemory,
 }
 
 // The record after a load, the answer, and the bytes taken from this piece.
@@ -48,19 +39,6 @@ pub struct PoweredOn {
 struct Progress {
     device: Device,
     taken: u64,
-}
-
-// 01's number of an answer.
-pub fn answer_number(answer: Answer) -> u32
-    ensures { λ r. ⌜ r ≡ answerNumber answer ⌝ }
-{
-    match answer {
-        Answer::Done => 0,
-        Answer::Stopped(stop) => config::stop_number(stop),
-        Answer::UnknownDevice => 21,
-        Answer::Inconsistent => 22,
-        Answer::WrongMemory => 23,
-    }
 }
 
 fn answer_of(phase: Phase) -> Answer

@@ -9,7 +9,8 @@ use lib.Dec.{eqb}
 use lib.ListN.{length}
 use borrow.Author.Tests.{eq-eqb, ne-eqb}
 use Rattle.config.specs.Consistent.{consistent}
-use Rattle.loader.specs.Load.{Outcome, answerNumber, memoryAt, powerOn, load}
+use Rattle.answers.specs.Numbers.{answerNumber}
+use Rattle.loader.specs.Load.{Outcome, memoryAt, powerOn, load}
 use Rattle.loader.specs.Pieces.{load-inconsistent, load-wrong-memory}
 use Rattle.image.specs.Image.{encoded}
 use Rattle.image.specs.Decode.{decoded}

@@ -76,7 +76,7 @@ pub extern "C" fn sw_power_on(device: u32, state: &mut [u8], memory: &mut [u8]) 
     let fresh = on.device;
     let answer = on.answer;
     image::encode::encode(fresh, state);
-    loader::answer_number(answer)
+    answers::answer_number(answer)
 }
 
 // Load: the record's image and the memory are changed, 01's number is returned and the bytes taken are written.
@@ -102,5 +102,5 @@ pub extern "C" fn sw_load(
     let answer = loaded.answer;
     image::encode::encode(after, state);
     *taken = loaded.taken;
-    loader::answer_number(answer)
+    answers::answer_number(answer)
 }

@@ -4,7 +4,8 @@ use mathlib.Core.Path.{_≡_, _∙_, refl, sym, ap}
 use mathlib.Core.Bool.{true, false}
 use borrow.Author.Tests.{not-true, not-false}
 use denote.Ref.{now}
-use Rattle.loader.specs.Load.{answerNumber, load}
+use Rattle.answers.specs.Numbers.{answerNumber}
+use Rattle.loader.specs.Load.{load}
 use Rattle.loader.specs.declared.Device.{Device}
 use Rattle.image.specs.Image.{encoded}
 use Rattle.image.specs.Compare.{isImage, accepted}

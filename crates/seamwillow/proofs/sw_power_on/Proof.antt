@@ -2,7 +2,7 @@
 -- By the law of each of the two cases, from what the calls ensure.
 use mathlib.Core.Path.{_≡_, _∙_, refl, ap}
 use denote.Ref.{now}
-use Rattle.loader.specs.Load.{answerNumber}
+use Rattle.answers.specs.Numbers.{answerNumber}
 use Rattle.loader.specs.declared.Device.{Device}
 use Rattle.image.specs.Image.{encoded}
 use Rattle.seamwillow.specs.Records.{powered-refused, powered-done}

@@ -1,9 +1,9 @@
--- `config::address_of` meets its contract: the address of each register.
--- By computation, once the register is known.
+-- `answers::stop_number` meets its contract: each arm has the number that the definition has.
+-- By computation, once the stop is known.
 use borrow.Author.Needs.{needs}
-use Rattle.config.specs.Registers.{addressOf}
-use Rattle.config.proofs.address_of.Statement.{statement}
-use Rattle.config.proofs.address_of.Tie as tie
+use Rattle.answers.specs.Numbers.{stopNumber}
+use Rattle.answers.proofs.stop_number.Statement.{statement}
+use Rattle.answers.proofs.stop_number.Tie as tie
 
 enum-told : tie.Need-enum-told
 enum-told c = search needs
@@ -35,55 +35,48 @@ enum-told-9 c = search needs
 enum-told-10 : tie.Need-enum-told-10
 enum-told-10 c = search needs
 
-enum-told-11 : tie.Need-enum-told-11
-enum-told-11 c = search needs
-
 returns : tie.Need-returns
-unfolding addressOf
+unfolding stopNumber
 returns c = rw (c .enum-told .given .1)
 
 returns-2 : tie.Need-returns-2
-unfolding addressOf
+unfolding stopNumber
 returns-2 c = rw (c .enum-told2 .given .1)
 
 returns-3 : tie.Need-returns-3
-unfolding addressOf
+unfolding stopNumber
 returns-3 c = rw (c .enum-told3 .given .1)
 
 returns-4 : tie.Need-returns-4
-unfolding addressOf
+unfolding stopNumber
 returns-4 c = rw (c .enum-told4 .given .1)
 
 returns-5 : tie.Need-returns-5
-unfolding addressOf
+unfolding stopNumber
 returns-5 c = rw (c .enum-told5 .given .1)
 
 returns-6 : tie.Need-returns-6
-unfolding addressOf
+unfolding stopNumber
 returns-6 c = rw (c .enum-told6 .given .1)
 
 returns-7 : tie.Need-returns-7
-unfolding addressOf
+unfolding stopNumber
 returns-7 c = rw (c .enum-told7 .given .1)
 
 returns-8 : tie.Need-returns-8
-unfolding addressOf
+unfolding stopNumber
 returns-8 c = rw (c .enum-told8 .given .1)
 
 returns-9 : tie.Need-returns-9
-unfolding addressOf
+unfolding stopNumber
 returns-9 c = rw (c .enum-told9 .given .1)
 
 returns-10 : tie.Need-returns-10
-unfolding addressOf
+unfolding stopNumber
 returns-10 c = rw (c .enum-told10 .given .1)
 
-returns-11 : tie.Need-returns-11
-unfolding addressOf
-returns-11 c = rw (c .enum-told11 .given .1)
-
-pub address-of-spec : {M : Type 1} → statement M
-address-of-spec =
+pub stop-number-spec : {M : Type 1} → statement M
+stop-number-spec =
     tie.close
     (tie.spec
     enum-told
@@ -96,7 +89,6 @@ address-of-spec =
     enum-told-8
     enum-told-9
     enum-told-10
-    enum-told-11
     returns
     returns-2
     returns-3
@@ -106,5 +98,4 @@ address-of-spec =
     returns-7
     returns-8
     returns-9
-    returns-10
-    returns-11)
+    returns-10)

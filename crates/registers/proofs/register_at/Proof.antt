@@ -1,9 +1,9 @@
--- `config::register_at` meets its contract: the register at each address.
+-- `registers::register_at` meets its contract: the register at each address.
 -- By computation, once the address is known, or known to be none of the eleven.
 use borrow.Author.Tests.{ne-eqb}
-use Rattle.config.specs.Registers.{registerAt}
-use Rattle.config.proofs.register_at.Statement.{statement}
-use Rattle.config.proofs.register_at.Tie as tie
+use Rattle.registers.specs.Addresses.{registerAt}
+use Rattle.registers.proofs.register_at.Statement.{statement}
+use Rattle.registers.proofs.register_at.Tie as tie
 
 returns : tie.Need-returns
 unfolding registerAt

@@ -1,9 +1,9 @@
--- `loader::answer_number` meets its contract: each arm has the number that the definition has.
+-- `answers::answer_number` meets its contract: each arm has the number that the definition has.
 -- By computation, once the answer is known; a stop has its own number.
 use borrow.Author.Needs.{needs}
-use Rattle.loader.specs.Load.{answerNumber}
-use Rattle.loader.proofs.answer_number.Statement.{statement}
-use Rattle.loader.proofs.answer_number.Tie as tie
+use Rattle.answers.specs.Numbers.{answerNumber}
+use Rattle.answers.proofs.answer_number.Statement.{statement}
+use Rattle.answers.proofs.answer_number.Tie as tie
 
 enum-told : tie.Need-enum-told
 enum-told c = search needs
