@@ -5,10 +5,6 @@ pub mod Packets
 pub mod Commands
 pub mod Words
 pub mod Bytes
-pub mod Consistent
 pub mod Cases
 pub mod Keeps
 pub mod Stopping
-pub mod Figures
-pub mod Consistency
-pub mod Events

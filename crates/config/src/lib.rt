@@ -91,7 +91,6 @@ pub struct Fed {
     pub event: Event,
 }
 
-mod checks; // checks.rt: the items of consistency
 mod command; // command.rt: what a command does
 mod header; // header.rt: header words
 mod writes; // writes.rt: a word written to a register
@@ -102,7 +101,6 @@ mod stream; // stream.rt: the hunt, and words from bytes
 ghost use mathlib.Core.Path.{_≡_};
 ghost use Rattle.config.specs.Words.{word};
 ghost use Rattle.config.specs.Bytes.{byte};
-ghost use Rattle.config.specs.Consistent.{consistent};
 
 // A whole word in a phase that takes words.
 pub fn word(phase: Phase, control: Control, w: u32) -> Fed
@@ -150,24 +148,4 @@ pub fn byte(phase: Phase, control: Control, x: u8) -> Fed
         Phase::Crc => stream::gathered(partial, phase, control, x),
         Phase::Stopped(_) => header::going(phase, control),
     }
-}
-
-// Phase and control state are consistent.
-pub fn consistent(phase: Phase, control: Control) -> bool
-    ensures { λ r. ⌜ r ≡ consistent phase control ⌝ }
-{
-    let current = control.current;
-    if 7 < control.device {
-        return false;
-    }
-    if !checks::current_fits(control.device, current) {
-        return false;
-    }
-    if 65536 <= control.registers.crc {
-        return false;
-    }
-    if 13 < control.registers.cmd {
-        return false;
-    }
-    checks::phase_fits(phase, control)
 }

@@ -22,7 +22,7 @@ use Rattle.config.specs.declared.Registers.{Registers}
 use Rattle.config.specs.declared.Control.{Control}
 use Rattle.config.specs.declared.Phase.{Phase}
 use Rattle.config.specs.declared.Phase.the-variants as Phase
-use Rattle.loader.specs.declared.Device.{Device}
+use Rattle.device.specs.declared.Device.{Device}
 
 -- "words of 32 bits, high byte first"; bytes that are missing are 0
 unfoldable pub wordAt : List ℕ → ℕ → ℕ

@@ -18,7 +18,7 @@ use Rattle.config.specs.declared.Registers.{Registers}
 use Rattle.config.specs.declared.Control.{Control}
 use Rattle.config.specs.declared.Phase.{Phase}
 use Rattle.config.specs.declared.Phase.the-variants as Phase
-use Rattle.loader.specs.declared.Device.{Device}
+use Rattle.device.specs.declared.Device.{Device}
 use Rattle.loader.specs.Memory.{bytesOf}
 
 -- ---- words 1 to 4: the phase

@@ -13,7 +13,7 @@ use Rattle.loader.specs.Memory.{bytesOf}
 use Rattle.loader.specs.Frames.{bytes-length}
 use Rattle.config.specs.declared.Phase.{Phase}
 use Rattle.config.specs.declared.Control.{Control}
-use Rattle.loader.specs.declared.Device.{Device}
+use Rattle.device.specs.declared.Device.{Device}
 use Rattle.image.specs.Image.{headWords, imageWords, image}
 use Rattle.image.specs.Compare.{starts}
 use Rattle.image.specs.Decode.{wordAt, wordsAt}

@@ -18,7 +18,7 @@ use Rattle.config.specs.declared.Current.the-variants as Current
 use Rattle.config.specs.declared.Flags.{Flags}
 use Rattle.config.specs.declared.Phase.{Phase}
 use Rattle.config.specs.declared.Phase.the-variants as Phase
-use Rattle.loader.specs.declared.Device.{Device}
+use Rattle.device.specs.declared.Device.{Device}
 use Rattle.image.specs.Image.{phaseNumber, subject, wordsLeft, wordsFilled, pending, bytesCount, bytesNumber, currentNumber, bit, flagBits, headWords}
 use Rattle.image.specs.Range.{AreWords, AreBytes, PhaseInRange, CurrentInRange, InRange}
 

@@ -14,7 +14,7 @@ use Rattle.config.specs.declared.Current.the-variants as Current
 use Rattle.config.specs.declared.Control.{Control}
 use Rattle.config.specs.declared.Phase.{Phase}
 use Rattle.config.specs.declared.Phase.the-variants as Phase
-use Rattle.loader.specs.declared.Device.{Device}
+use Rattle.device.specs.declared.Device.{Device}
 use Rattle.image.specs.Image.{registerWords}
 
 -- ---- sizes

@@ -7,13 +7,13 @@ use Prim.Native.Nat.{ℕ, _+_, _%_}
 use lib.Dec.{eqb, leb, ltb}
 use Rattle.registers.specs.Addresses.{isFdri, isMfwr}
 use Rattle.config.specs.Part.{lengthAt}
-use Rattle.config.specs.Consistent.{currentFits, dataFits, phaseFits, consistent}
+use Rattle.device.specs.Consistent.{currentFits, dataFits, phaseFits, consistent}
 use Rattle.config.specs.declared.Current.{Current}
 use Rattle.config.specs.declared.Current.the-variants as Current
 use Rattle.config.specs.declared.Control.{Control}
 use Rattle.config.specs.declared.Phase.{Phase}
 use Rattle.config.specs.declared.Phase.the-variants as Phase
-use Rattle.loader.specs.declared.Device.{Device}
+use Rattle.device.specs.declared.Device.{Device}
 use Rattle.image.specs.Image.{image}
 use Rattle.image.specs.Decode.{decoded}
 use Rattle.image.specs.Compare.{accepted}

@@ -7,7 +7,7 @@ use config::Current;
 use config::Flags;
 use config::Phase;
 use config::Registers;
-use loader::Device;
+use device::Device;
 use registers::Open;
 use registers::Register;
 ghost use mathlib.Core.Path.{_≡_};

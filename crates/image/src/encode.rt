@@ -2,7 +2,7 @@
 use crate::head::head;
 use crate::words::has_words;
 use crate::words::put_words;
-use loader::Device;
+use device::Device;
 ghost use mathlib.Core.Path.{_≡_};
 ghost use Rattle.image.specs.Image.{encoded};
 ghost use Rattle.image.specs.Compare.{isImage};

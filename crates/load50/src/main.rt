@@ -1,10 +1,10 @@
 // Loads standard input into a freshly powered XC3S50 and prints what came of it, in document 01's four lines.
 use answers::Answer;
 use config::Phase;
+use device::Device;
 use libc::STDERR_FILENO;
 use libc::STDIN_FILENO;
 use libc::STDOUT_FILENO;
-use loader::Device;
 
 // How many pieces are read at most: far beyond any stream, since a loop must end.
 const PIECES: u64 = 4294967296;
@@ -100,7 +100,7 @@ fn load_input(start: Device, memory: &mut [u8]) -> Session {
 
 fn main() {
     let mut memory = [0u8; 54464];
-    let on = loader::power_on(0, &mut memory);
+    let on = device::power_on(0, &mut memory);
     let start = on.device;
     let session = load_input(start, &mut memory);
     if session.failed {

@@ -7,10 +7,10 @@ use Prim.Native.Nat.{ℕ, _+_, _*_, _≤_}
 use lib.ListN.{length, drop}
 use lib.Seq.{drop-set-lt}
 use Rattle.config.specs.Part.{lengthAt}
-use Rattle.config.specs.Consistent.{consistent}
-use Rattle.config.specs.Consistency.{byte-consistent}
+use Rattle.device.specs.Consistent.{consistent}
+use Rattle.device.specs.Consistency.{byte-consistent}
 use Rattle.config.specs.Keeps.{byte-keeps}
-use Rattle.config.specs.Events.{Placed, byte-placed}
+use Rattle.device.specs.Events.{Placed, byte-placed}
 use Rattle.config.specs.declared.Control.{Control}
 use Rattle.config.specs.declared.Event.{Event}
 use Rattle.config.specs.declared.Event.the-variants as Event
@@ -19,7 +19,7 @@ use Rattle.loader.specs.Run.{fedByte, run}
 use Rattle.loader.specs.Load.{memoryAt}
 use Rattle.loader.specs.Pieces.{run-invariant, Accepted}
 use Rattle.loader.specs.Frames.{frame-fits}
-use Rattle.loader.specs.declared.Device.{Device}
+use Rattle.device.specs.declared.Device.{Device}
 
 -- the frame that an event stores, of l words, lies in the memory
 abbrev pub Lands : ℕ → List ℕ → Event → Type 0

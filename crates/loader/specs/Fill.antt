@@ -28,7 +28,7 @@ use Rattle.loader.specs.Run.{Ran, ran, after, isStopped, fedByte, device
 use Rattle.loader.specs.Pieces.{byte-run, after-after}
 use Rattle.loader.specs.Words.{takesWords, partial-empty, fedWord, word-run}
 use Rattle.config.specs.declared.Event.the-variants as Event
-use Rattle.loader.specs.declared.Device.{Device}
+use Rattle.device.specs.declared.Device.{Device}
 
 -- ---- definitions
 

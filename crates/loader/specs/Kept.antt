@@ -18,7 +18,7 @@ use Rattle.loader.specs.Run.{isStopped, fedByte, run}
 use Rattle.loader.specs.Load.{load}
 use Rattle.loader.specs.Pieces.{next, nextMemory, run-induction, run-invariant, load-cases}
 use Rattle.loader.specs.Frames.{store-length, store-other}
-use Rattle.loader.specs.declared.Device.{Device}
+use Rattle.device.specs.declared.Device.{Device}
 
 -- the frame that an event stores
 unfoldable pub storesOf : Event → List ℕ

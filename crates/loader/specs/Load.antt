@@ -1,21 +1,17 @@
--- Power-on and load, with their refusals.
--- Sources: 01, "Power-on"; "Stops and refusals", the sentence on refusals 21 to 23.
+-- Load, with its refusals.
+-- Source: 01, "Stops and refusals", the sentence on refusals 22 and 23.
 use Prim.Native.Nat.{ℕ}
 use mathlib.Core.List.{List}
-use mathlib.Core.Bool.{Bool, false, cond}
+use mathlib.Core.Bool.{cond}
 use lib.Dec.{eqb}
-use lib.ListN.{length, replicate}
+use lib.ListN.{length}
 use Rattle.parts.specs.Device.{figure, memoryLength, valueOf}
-use Rattle.parts.specs.declared.device.Figure.{Figure}
-use Rattle.parts.specs.declared.device.Figure.the-variants as Figure
-use Rattle.config.specs.Consistent.{consistent}
-use Rattle.config.specs.declared.Bytes.the-variants as Bytes
-use Rattle.config.specs.declared.Current.the-variants as Current
-use Rattle.config.specs.declared.Control.{Control}
+use Rattle.device.specs.Consistent.{consistent}
+use Rattle.device.specs.PowerOn.{Outcome}
 use Rattle.config.specs.declared.Phase.{Phase}
 use Rattle.config.specs.declared.Phase.the-variants as Phase
 use Rattle.loader.specs.Run.{Ran, run}
-use Rattle.loader.specs.declared.Device.{Device}
+use Rattle.device.specs.declared.Device.{Device}
 use Rattle.answers.specs.declared.Answer.{Answer}
 use Rattle.answers.specs.declared.Answer.the-variants as Answer
 
@@ -26,40 +22,6 @@ answerOf (Phase.Header o) = Answer.Done
 answerOf (Phase.Data r left filled) = Answer.Done
 answerOf Phase.Crc = Answer.Done
 answerOf (Phase.Stopped s) = Answer.Stopped s
-
--- what a call leaves and answers; power-on takes no bytes
-pub record Outcome : Type 0 where
-  pub device : Device
-  pub memory : List ℕ
-  pub answer : Answer
-  pub taken : ℕ
-
--- ---- power-on
-
--- 01: "registers and frame words zero, all flags clear, current frame 0, hunting"
-unfoldable pub freshControl : ℕ → Control
-freshControl d = record {
-  device = d;
-  registers = record { crc = 0; far = 0; fdri = 0; cmd = 0; ctl = 0; mask = 0; lout = 0; cor = 0; mfwr = 0; flr = 0; idcode = 0 };
-  flags = record { «idcode_ok» = false; «flr_ok» = false; «buffer_valid» = false; ghigh = false; «start_pending» = false; checked = false; started = false };
-  current = Current.Frame 0;
-  partial = Bytes.Zero;
-}
-
-unfoldable pub fresh : ℕ → Device
-fresh d = record { phase = Phase.Hunting Bytes.Zero; control = freshControl d; frame = replicate 213 0 }
-
--- 01: "order 21 or 22, then 23"; a refusal hands back the fresh record of device 0 and changes no memory
-unfoldable pub powered : Figure → ℕ → List ℕ → Outcome
-powered (Figure.Value n) d m =
-    cond (eqb (length m) n) (record { device = fresh d; memory = replicate n 0; answer = Answer.Done; taken = 0 })
-    (record { device = fresh 0; memory = m; answer = Answer.WrongMemory; taken = 0 })
-powered Figure.UnknownDevice d m = record { device = fresh 0; memory = m; answer = Answer.UnknownDevice; taken = 0 }
-
-abbrev pub powerOn : ℕ → List ℕ → Outcome
-powerOn d m = powered (figure memoryLength d) d m
-
--- ---- load
 
 -- the length that the memory of the record's part has
 abbrev pub memoryAt : ℕ → ℕ

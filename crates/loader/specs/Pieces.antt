@@ -11,13 +11,14 @@ use native.Mathlib.Omega.{arith}
 use lib.Dec.{eqb}
 use lib.ListN.{length}
 use borrow.Author.Tests.{eq-eqb, ne-eqb, eqb-true, eqb-false}
-use Rattle.config.specs.Consistent.{consistent}
+use Rattle.device.specs.Consistent.{consistent}
 use Rattle.config.specs.declared.Phase.{Phase}
 use Rattle.config.specs.declared.Phase.the-variants as Phase
 use Rattle.answers.specs.declared.Stop.{Stop}
 use Rattle.loader.specs.Run.{isStopped, fedByte, deviceAfter, memoryAfter, Ran, ran, after, run}
-use Rattle.loader.specs.Load.{Outcome, answerOf, memoryAt, refused, finished, load}
-use Rattle.loader.specs.declared.Device.{Device}
+use Rattle.device.specs.PowerOn.{Outcome}
+use Rattle.loader.specs.Load.{answerOf, memoryAt, refused, finished, load}
+use Rattle.device.specs.declared.Device.{Device}
 use Rattle.answers.specs.declared.Answer.{Answer}
 use Rattle.answers.specs.declared.Answer.the-variants as Answer
 

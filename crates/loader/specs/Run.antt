@@ -10,7 +10,7 @@ use Rattle.config.specs.declared.Phase.{Phase}
 use Rattle.config.specs.declared.Phase.the-variants as Phase
 use Rattle.config.specs.declared.Fed.{Fed}
 use Rattle.loader.specs.Memory.{buffered, stored}
-use Rattle.loader.specs.declared.Device.{Device}
+use Rattle.device.specs.declared.Device.{Device}
 
 unfoldable pub isStopped : Phase → Bool
 isStopped (Phase.Hunting b) = false

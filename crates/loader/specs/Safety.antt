@@ -10,8 +10,8 @@ use native.Mathlib.Omega.{arith}
 use lib.ListN.{length}
 use Rattle.config.specs.Part.{lengthAt}
 use Rattle.config.specs.Control.{withPartial, stopped}
-use Rattle.config.specs.Consistent.{consistent}
-use Rattle.config.specs.Consistency.{byte-consistent}
+use Rattle.device.specs.Consistent.{consistent}
+use Rattle.device.specs.Consistency.{byte-consistent}
 use Rattle.config.specs.Keeps.{Grown, grown-refl, grown-trans, byte-keeps}
 use Rattle.config.specs.Stopping.{leftAt, running, word-stops}
 use Rattle.config.specs.Bytes.{wordOf, byte}
@@ -22,14 +22,15 @@ use Rattle.config.specs.declared.Bytes.the-variants as Bytes
 use Rattle.config.specs.declared.Phase.{Phase}
 use Rattle.config.specs.declared.Phase.the-variants as Phase
 use Rattle.loader.specs.Run.{isStopped, Ran, ran, run}
-use Rattle.loader.specs.Load.{Outcome, answerOf, memoryAt, load}
+use Rattle.device.specs.PowerOn.{Outcome}
+use Rattle.loader.specs.Load.{answerOf, memoryAt, load}
 use Rattle.answers.specs.declared.Answer.the-variants as Answer
 use Rattle.loader.specs.Pieces.{run-invariant, run-append, taken-le, taken-all, load-accepted, load-inconsistent, load-wrong-memory, load-cases, accepted-again, later, load-append}
 use Rattle.loader.specs.Words.{takesWords, partial-empty, fedWord, word-run}
 use Rattle.loader.specs.Words.{word-stops as run-stops}
 use Rattle.loader.specs.Frames.{length-fits}
 use Rattle.loader.specs.Kept.{run-device, run-keeps}
-use Rattle.loader.specs.declared.Device.{Device}
+use Rattle.device.specs.declared.Device.{Device}
 
 pub run-consistent : (d : Device) (m xs : List ℕ) → consistent (d .phase) (d .control) ≡ true → consistent (run d m xs .device .phase) (run d m xs .device .control) ≡ true
 run-consistent = run-invariant (λ e _. consistent (e .phase) (e .control) ≡ true) (λ e _ x _ i. byte-consistent (e .phase) (e .control) x i)

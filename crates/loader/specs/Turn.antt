@@ -20,7 +20,7 @@ use Rattle.loader.specs.Memory.{buffered, stored}
 use Rattle.loader.specs.Run.{after, isStopped, deviceAfter, memoryAfter, run}
 use Rattle.loader.specs.Words.{takesWords, partial-empty}
 use Rattle.loader.specs.Fill.{device, wordAt, wordsAt, keptAll, filledControl, run-byte, run-word, run-filling}
-use Rattle.loader.specs.declared.Device.{Device}
+use Rattle.device.specs.declared.Device.{Device}
 
 -- n of the bytes from offset i on lead from record d and memory m to record e and memory k
 pub record Turn (d : Device) (m : List ℕ) (e : Device) (k : List ℕ) (s : List ℕ) (i n : ℕ) : Type 0 where

@@ -20,7 +20,7 @@ use Rattle.config.specs.declared.Fed.{Fed}
 use Rattle.loader.specs.Memory.{buffered, stored}
 use Rattle.loader.specs.Run.{isStopped, deviceAfter, memoryAfter, Ran, ran, after, run}
 use Rattle.loader.specs.Pieces.{stopped-run, byte-run}
-use Rattle.loader.specs.declared.Device.{Device}
+use Rattle.device.specs.declared.Device.{Device}
 
 -- the phases in which "bytes are taken in fours"
 unfoldable pub takesWords : Phase → Bool

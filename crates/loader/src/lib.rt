@@ -1,38 +1,21 @@
-// The device record, power-on and load: the control machine's events applied to the frame buffer and to the memory.
+// Load: the control machine's events applied to the frame buffer and to the memory.
 mod fill; // fill.rt: words of an FDRI packet that only fill the buffer
 mod store; // store.rt: the buffer and the memory
 mod turn; // turn.rt: the next bytes of a piece
 
 use answers::Answer;
-use config::Bytes;
 use config::Control;
-use config::Current;
-use config::Flags;
 use config::Phase;
-use config::Registers;
+use device::Device;
 ghost use mathlib.Core.Path.{_≡_};
-ghost use Rattle.config.specs.Consistent.{consistent};
 ghost use Rattle.loader.specs.Run.{isStopped, run};
-ghost use Rattle.loader.specs.Load.{answerOf, fresh, powerOn, load};
-
-// The device record. Of the frame buffer the first L words count.
-pub struct Device {
-    pub phase: Phase,
-    pub control: Control,
-    pub frame: [u32; 213],
-}
+ghost use Rattle.loader.specs.Load.{answerOf, load};
 
 // The record after a load, the answer, and the bytes taken from this piece.
 pub struct Loaded {
     pub device: Device,
     pub answer: Answer,
     pub taken: u64,
-}
-
-// The record after power-on.
-pub struct PoweredOn {
-    pub device: Device,
-    pub answer: Answer,
 }
 
 // The record after the bytes of a piece.
@@ -55,83 +38,6 @@ fn answer_of(phase: Phase) -> Answer
         Phase::Crc => Answer::Done,
         Phase::Stopped(stop) => Answer::Stopped(stop),
     }
-}
-
-// The record of a part that was just powered.
-fn fresh(device: u32) -> Device
-    ensures { λ r. ⌜ r ≡ fresh device ⌝ }
-{
-    let registers = Registers {
-        crc: 0,
-        far: 0,
-        fdri: 0,
-        cmd: 0,
-        ctl: 0,
-        mask: 0,
-        lout: 0,
-        cor: 0,
-        mfwr: 0,
-        flr: 0,
-        idcode: 0,
-    };
-    let flags = Flags {
-        idcode_ok: false,
-        flr_ok: false,
-        buffer_valid: false,
-        ghigh: false,
-        start_pending: false,
-        checked: false,
-        started: false,
-    };
-    let control = Control {
-        device: device,
-        registers: registers,
-        flags: flags,
-        current: Current::Frame(0),
-        partial: Bytes::Zero,
-    };
-    Device {
-        phase: Phase::Hunting(Bytes::Zero),
-        control: control,
-        frame: [0; 213],
-    }
-}
-
-// Power-on: 21, then 23; a refusal gives the fresh record of device 0 and leaves the memory.
-pub fn power_on(device: u32, memory: &mut [u8]) -> PoweredOn
-    ensures { λ r. ⌜ r .device ≡ powerOn device (now (memory .entry)) .device ⌝ }
-    ensures { λ r. ⌜ r .answer ≡ powerOn device (now (memory .entry)) .answer ⌝ }
-    ensures { λ _. ⌜ now (memory .exit) ≡ powerOn device (now (memory .entry)) .memory ⌝ }
-{
-    let wanted = parts::device::memory_length(device);
-    match wanted {
-        parts::device::Figure::UnknownDevice => PoweredOn {
-            device: fresh(0),
-            answer: Answer::UnknownDevice,
-        },
-        parts::device::Figure::Value(n) => {
-            if memory.len() != n as usize {
-                return PoweredOn {
-                    device: fresh(0),
-                    answer: Answer::WrongMemory,
-                };
-            }
-            store::clear(memory);
-            PoweredOn {
-                device: fresh(device),
-                answer: Answer::Done,
-            }
-        }
-    }
-}
-
-// The record is consistent.
-pub fn consistent(device: Device) -> bool
-    ensures { λ r. ⌜ r ≡ consistent (device .phase) (device .control) ⌝ }
-{
-    let phase = device.phase;
-    let control = device.control;
-    config::consistent(phase, control)
 }
 
 fn is_stopped(phase: Phase) -> bool
@@ -196,9 +102,8 @@ pub fn load(d: Device, memory: &mut [u8], bytes: &[u8]) -> Loaded
     ensures { λ r. ⌜ r .taken ≡ load d (now (memory .entry)) (now (bytes .entry)) .taken ⌝ }
     ensures { λ _. ⌜ now (memory .exit) ≡ load d (now (memory .entry)) (now (bytes .entry)) .memory ⌝ }
 {
-    let phase = d.phase;
     let control = d.control;
-    if !config::consistent(phase, control) {
+    if !device::consistent(d) {
         return Loaded {
             device: d,
             answer: Answer::Inconsistent,

@@ -2,20 +2,9 @@
 use config::Event;
 ghost use mathlib.Core.Path.{_≡_};
 ghost use Prim.Native.Nat.{_+_, _*_, _≤_};
-ghost use lib.ListN.{length, take, set, replicate};
+ghost use lib.ListN.{length, take, set};
 ghost use lib.Seq.{sets};
 ghost use Rattle.loader.specs.Memory.{bytesOf, storeWithin, buffered, stored};
-
-// Every byte becomes zero.
-pub(crate) fn clear(memory: &mut [u8])
-    ensures { λ _. ⌜ now (memory .exit) ≡ replicate (length (now (memory .entry))) 0 ⌝ }
-{
-    let mut i: usize = 0;
-    while i < memory.len() {
-        memory[i] = 0;
-        i += 1;
-    }
-}
 
 // States that a buffer passed by value has 213 words, which its type tells here; does nothing.
 fn sized(frame: [u32; 213])

@@ -8,9 +8,10 @@ use mathlib.Core.Bool.{true, false, cond, and-eq-true-iff}
 use lib.Dec.{eqb}
 use lib.ListN.{length}
 use borrow.Author.Tests.{eq-eqb, ne-eqb}
-use Rattle.config.specs.Consistent.{consistent}
+use Rattle.device.specs.Consistent.{consistent}
 use Rattle.answers.specs.Numbers.{answerNumber}
-use Rattle.loader.specs.Load.{Outcome, memoryAt, powerOn, load}
+use Rattle.device.specs.PowerOn.{Outcome, powerOn}
+use Rattle.loader.specs.Load.{memoryAt, load}
 use Rattle.loader.specs.Pieces.{load-inconsistent, load-wrong-memory}
 use Rattle.image.specs.Image.{encoded}
 use Rattle.image.specs.Decode.{decoded}

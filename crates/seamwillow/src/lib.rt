@@ -72,7 +72,7 @@ pub extern "C" fn sw_power_on(device: u32, state: &mut [u8], memory: &mut [u8]) 
     if state.len() != 948 {
         return 22;
     }
-    let on = loader::power_on(device, memory);
+    let on = device::power_on(device, memory);
     let fresh = on.device;
     let answer = on.answer;
     image::encode::encode(fresh, state);

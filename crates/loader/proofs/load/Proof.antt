@@ -5,10 +5,10 @@ use mathlib.Core.Bool.{true}
 use borrow.Author.Needs.{needs}
 use borrow.Author.Tests.{not-true, not-false}
 use denote.Ref.{now}
-use Rattle.config.specs.Consistent.{consistent}
+use Rattle.device.specs.Consistent.{consistent}
 use Rattle.loader.specs.Load.{answerOf, memoryAt}
 use Rattle.loader.specs.Pieces.{load-accepted, load-inconsistent, load-wrong-memory}
-use Rattle.loader.specs.declared.Device.{Device}
+use Rattle.device.specs.declared.Device.{Device}
 use Rattle.loader.proofs.load.Statement.{statement}
 use Rattle.loader.proofs.load.Tie as tie
 

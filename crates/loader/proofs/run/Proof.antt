@@ -13,7 +13,7 @@ use Rattle.loader.specs.Run.{Ran, ran, after, run}
 use Rattle.loader.specs.Pieces.{stopped-run, after-zero, after-after}
 use Rattle.loader.specs.Fill.{device}
 use Rattle.loader.specs.Turn.{Turn}
-use Rattle.loader.specs.declared.Device.{Device}
+use Rattle.device.specs.declared.Device.{Device}
 use Rattle.loader.proofs.run.Statement.{statement}
 use Rattle.loader.proofs.run.Tie as tie
 

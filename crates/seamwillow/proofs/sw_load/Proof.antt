@@ -6,7 +6,7 @@ use borrow.Author.Tests.{not-true, not-false}
 use denote.Ref.{now}
 use Rattle.answers.specs.Numbers.{answerNumber}
 use Rattle.loader.specs.Load.{load}
-use Rattle.loader.specs.declared.Device.{Device}
+use Rattle.device.specs.declared.Device.{Device}
 use Rattle.image.specs.Image.{encoded}
 use Rattle.image.specs.Compare.{isImage, accepted}
 use Rattle.seamwillow.specs.Records.{loaded-refused, loaded-done}

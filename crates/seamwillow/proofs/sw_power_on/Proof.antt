@@ -3,7 +3,7 @@
 use mathlib.Core.Path.{_≡_, _∙_, refl, ap}
 use denote.Ref.{now}
 use Rattle.answers.specs.Numbers.{answerNumber}
-use Rattle.loader.specs.declared.Device.{Device}
+use Rattle.device.specs.declared.Device.{Device}
 use Rattle.image.specs.Image.{encoded}
 use Rattle.seamwillow.specs.Records.{powered-refused, powered-done}
 use borrow.Author.Needs.{needs}

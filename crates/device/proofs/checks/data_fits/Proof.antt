@@ -1,24 +1,33 @@
--- `config::checks::data_fits` meets its contract: each test of the code is a test of the definition.
+-- `device::checks::data_fits` meets its contract: each test of the code is a test of the definition.
 -- By computation, with the tests that led to each answer.
+use mathlib.Core.Path.{_≡_}
 use borrow.Author.Needs.{needs}
 use borrow.Author.Tests.{eq-eqb, ne-eqb, lt-ltb, le-ltb, le-leb, lt-leb}
-use Rattle.config.specs.Consistent.{dataFits}
-use Rattle.config.proofs.checks.data_fits.Statement.{statement}
-use Rattle.config.proofs.checks.data_fits.Tie as tie
+use Rattle.config.specs.Part.{lengthAt}
+use Rattle.device.specs.Consistent.{dataFits}
+use Rattle.device.proofs.checks.data_fits.Statement.{statement}
+use Rattle.device.proofs.checks.data_fits.Tie as tie
 
 address-of-requires : tie.Need-address-of-requires
 address-of-requires c κs = search needs
 
-length-at-requires : tie.Need-length-at-requires
-length-at-requires c κs = search needs
+frame-length-requires : tie.Need-frame-length-requires
+frame-length-requires c κs = search needs
+
+value-of-requires : tie.Need-value-of-requires
+value-of-requires c κs = search needs
 
 cast-length : tie.Need-cast-length
 cast-length c = search needs
 
+-- the length that the tests compare with is L
+length : (c : tie.After-value-of) → c .value-of .result ≡ lengthAt (c .before .before .before .before .args .control .device)
+length c = rw (c .before .frame-length .ensures) at (c .value-of .ensures)
+
 returns : tie.Need-returns
 unfolding dataFits
 returns c =
-    simp (← c .before .before .before .address-of .ensures, eq-eqb _ _ (c .before .before .if1 .taken), ← c .before .length-at .ensures, le-ltb _ _ (c .if2 .taken))
+    simp (← c .before .before .before .before .address-of .ensures, eq-eqb _ _ (c .before .before .before .if1 .taken), ← length (c .before), le-ltb _ _ (c .if2 .taken))
 
 add-result : tie.Need-add-result
 add-result c = search needs
@@ -29,7 +38,7 @@ rem-result c = search needs
 returns-2 : tie.Need-returns-2
 unfolding dataFits
 returns-2 c =
-    simp (← c .before .before .before .address-of .ensures, eq-eqb _ _ (c .before .before .if1 .taken), ← c .before .length-at .ensures, lt-ltb _ _ (c .if2 .left))
+    simp (← c .before .before .before .before .address-of .ensures, eq-eqb _ _ (c .before .before .before .if1 .taken), ← length (c .before), lt-ltb _ _ (c .if2 .left))
 
 returns-3 : tie.Need-returns-3
 unfolding dataFits
@@ -50,7 +59,8 @@ data-fits-spec =
     tie.close
     (tie.spec
     address-of-requires
-    length-at-requires
+    frame-length-requires
+    value-of-requires
     cast-length
     returns
     add-result

@@ -1,4 +1,4 @@
--- `loader::store::clear` meets its contract. The invariant: the bytes passed are zero, and the others are as they were.
+-- `device::power::clear` meets its contract. The invariant: the bytes passed are zero, and the others are as they were.
 -- At the end no byte is left.
 use mathlib.Core.Path.{_≡_, _∙_, refl, ap}
 use mathlib.Core.List.{_++_, append-nil}
@@ -8,8 +8,8 @@ use lib.ListN.{length, drop, set, replicate, length-set}
 use lib.Seq.{drop-length}
 use borrow.Author.Fill.{fill-none, fill-more}
 use denote.Ref.{now}
-use Rattle.loader.proofs.store.clear.Statement.{statement}
-use Rattle.loader.proofs.store.clear.Tie as tie
+use Rattle.device.proofs.power.clear.Statement.{statement}
+use Rattle.device.proofs.power.clear.Tie as tie
 
 abbrev Inv-loop : tie.InvT-loop
 Inv-loop memory₀ i₀ memory i = (i ≤ length memory₀) × (memory ≡ replicate i 0 ++ drop i memory₀) × (length memory ≡ length memory₀)

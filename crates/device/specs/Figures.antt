@@ -15,8 +15,8 @@ use Rattle.parts.specs.declared.device.PartAnswer.{PartAnswer}
 use Rattle.parts.specs.declared.device.PartAnswer.the-variants as PartAnswer
 use Rattle.parts.specs.declared.frame.NumberAnswer.{NumberAnswer}
 use Rattle.parts.specs.declared.frame.NumberAnswer.the-variants as NumberAnswer
 use Rattle.config.specs.Part.{lengthAt, countAt, currentOf, named}
-use Rattle.config.specs.Consistent.{currentFits}
+use Rattle.device.specs.Consistent.{currentFits}
 
 pub record Figures (d : ℕ) : Type 0 where
   pub part : Part

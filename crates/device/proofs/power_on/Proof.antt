@@ -1,11 +1,11 @@
--- `loader::power_on` meets its contract. By cases: the part is unknown, or its memory has another length, or the memory is cleared.
+-- `device::power_on` meets its contract. By cases: the part is unknown, or its memory has another length, or the memory is cleared.
 -- In each the figure's equation and the length's test pick the definition's clause.
 use mathlib.Core.Path.{_∙_, sym}
 use borrow.Author.Needs.{needs}
 use borrow.Author.Tests.{eq-eqb, ne-eqb}
-use Rattle.loader.specs.Load.{powered}
-use Rattle.loader.proofs.power_on.Statement.{statement}
-use Rattle.loader.proofs.power_on.Tie as tie
+use Rattle.device.specs.PowerOn.{powered}
+use Rattle.device.proofs.power_on.Statement.{statement}
+use Rattle.device.proofs.power_on.Tie as tie
 
 memory-length-requires : tie.Need-memory-length-requires
 memory-length-requires c κs = search needs

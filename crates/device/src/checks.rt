@@ -1,19 +1,20 @@
 // The items of consistency that go by cases.
-use crate::Control;
-use crate::Current;
-use crate::Phase;
-use crate::figures::count_at;
-use crate::figures::length_at;
+use config::Control;
+use config::Current;
+use config::Phase;
+use parts::device::frame_count;
+use parts::device::frame_length;
+use parts::device::value_of;
 use registers::Register;
 use registers::address_of;
 ghost use mathlib.Core.Path.{_≡_};
-ghost use Rattle.config.specs.Consistent.{currentFits, dataFits, phaseFits};
+ghost use Rattle.device.specs.Consistent.{currentFits, dataFits, phaseFits};
 
 pub(crate) fn current_fits(device: u32, current: Current) -> bool
     ensures { λ r. ⌜ r ≡ currentFits device current ⌝ }
 {
     match current {
-        Current::Frame(n) => n < count_at(device),
+        Current::Frame(n) => n < value_of(frame_count(device)),
         Current::NoFrame => true,
     }
 }
@@ -23,7 +24,7 @@ fn data_fits(register: Register, left: u32, filled: u32, control: Control) -> bo
 {
     let address = address_of(register);
     if address == 2 {
-        let length = length_at(control.device) as u64;
+        let length = value_of(frame_length(control.device)) as u64;
         let filled = filled as u64;
         if length <= filled {
             return false;

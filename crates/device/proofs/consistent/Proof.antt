@@ -1,16 +1,16 @@
--- `config::consistent` meets its contract: each test of the code is an item of the definition.
+-- `device::consistent` meets its contract: each test of the code is an item of the definition.
 -- By computation, with the tests that led to each answer.
 use mathlib.Core.Path.{_≡_, _∙_, sym}
 use mathlib.Core.Bool.{true, _&&_}
 use lib.Dec.{leb}
 use borrow.Author.Needs.{needs}
 use borrow.Author.Tests.{lt-ltb, le-ltb, le-leb, lt-leb, not-true, not-false}
-use Rattle.config.specs.Consistent.{currentFits, consistent}
-use Rattle.config.proofs.consistent.Statement.{statement}
-use Rattle.config.proofs.consistent.Tie as tie
+use Rattle.device.specs.Consistent.{currentFits, consistent}
+use Rattle.device.proofs.consistent.Statement.{statement}
+use Rattle.device.proofs.consistent.Tie as tie
 
 -- past the first two tests, their items hold
-device-fits : (c : tie.Else2) → let k = c .before .before .before .before .args .control in (leb (k .device) 7 && currentFits (k .device) (k .current)) ≡ true
+device-fits : (c : tie.Else2) → let k = c .before .before .before .before .before .args .device .control in (leb (k .device) 7 && currentFits (k .device) (k .current)) ≡ true
 device-fits c = simp (le-leb _ _ (c .before .before .if1 .left), sym (c .before .current-fits .ensures) ∙ not-false _ (c .if2 .left))
 
 returns : tie.Need-returns

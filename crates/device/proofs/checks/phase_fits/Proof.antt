@@ -1,10 +1,10 @@
--- `config::checks::phase_fits` meets its contract: each test of the code is a test of the definition.
+-- `device::checks::phase_fits` meets its contract: each test of the code is a test of the definition.
 -- By computation, once the phase is known, with the tests that led to each answer.
 use borrow.Author.Needs.{needs}
 use borrow.Author.Tests.{le-leb, lt-leb}
-use Rattle.config.specs.Consistent.{phaseFits}
-use Rattle.config.proofs.checks.phase_fits.Statement.{statement}
-use Rattle.config.proofs.checks.phase_fits.Tie as tie
+use Rattle.device.specs.Consistent.{phaseFits}
+use Rattle.device.proofs.checks.phase_fits.Statement.{statement}
+use Rattle.device.proofs.checks.phase_fits.Tie as tie
 
 enum-told : tie.Need-enum-told
 enum-told c = search needs

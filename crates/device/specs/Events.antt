@@ -7,31 +7,31 @@ use native.Mathlib.Omega.{arith}
 use lib.Dec.{eqb, leb, ltb}
 use borrow.Author.Tests.{ltb-true}
 use Rattle.crc16.specs.Register.{feed}
 use Rattle.config.specs.Cases.{either}
 use Rattle.config.specs.Part.{idcodeAt, lengthAt, countAt}
-use Rattle.config.specs.Figures.{figures}
+use Rattle.device.specs.Figures.{figures}
 use Rattle.registers.specs.Addresses.{addressOf}
 use Rattle.config.specs.Control.{withPartial}
 use Rattle.config.specs.Packets.{headerWord}
 use Rattle.config.specs.Commands.{acted}
 use Rattle.config.specs.Words.{checked, crcWord, farWord, cmdWord, frameStored, fdriWord, mfwrStored, mfwrWord, idcodeWord, flrWord, dataWord, word}
 use Rattle.config.specs.Bytes.{gathered, wordOf, byte}
-use Rattle.config.specs.Consistent.{currentFits, dataFits, phaseFits, consistent}
+use Rattle.device.specs.Consistent.{currentFits, dataFits, phaseFits, consistent}
 use Rattle.config.specs.Keeps.{header-plain}
-use Rattle.config.specs.Consistency.{Consistent, to-items, to-filling, partial-fine}
+use Rattle.device.specs.Consistency.{Consistent, to-items, to-filling, partial-fine}
 use Rattle.registers.specs.declared.Register.{Register}
 use Rattle.registers.specs.declared.Register.the-variants as Register
 use Rattle.registers.specs.declared.Open.{Open}
 use Rattle.config.specs.declared.Current.{Current}
 use Rattle.config.specs.declared.Current.the-variants as Current
 use Rattle.config.specs.declared.Bytes.{Bytes}
 use Rattle.config.specs.declared.Bytes.the-variants as Bytes
 use Rattle.config.specs.declared.Control.{Control}
 use Rattle.config.specs.declared.Phase.{Phase}
 use Rattle.config.specs.declared.Phase.the-variants as Phase
 use Rattle.config.specs.declared.Event.{Event}
 use Rattle.config.specs.declared.Event.the-variants as Event
 use Rattle.config.specs.declared.Fed.{Fed}
 
 pub header-quiet : (o : Open) (c : Control) (w : ℕ) → headerWord o c w .event ≡ Event.Nothing
 header-quiet o c w = ap (λ (f : Fed). f .event) (header-plain c o w)

@@ -9,35 +9,35 @@ use lib.Dec.{eqb, leb, ltb}
 use borrow.Author.Tests.{lt-ltb, le-leb, eq-eqb, ltb-true, ltb-false, leb-true, leb-false, eqb-true, eqb-false}
 use Rattle.crc16.specs.Register.{feed}
 use Rattle.crc16.specs.Bounds.{feed-lt}
 use Rattle.config.specs.Cases.{either}
 use Rattle.config.specs.Part.{idcodeAt, lengthAt, countAt}
-use Rattle.config.specs.Figures.{figures, named-fits}
+use Rattle.device.specs.Figures.{figures, named-fits}
 use Rattle.registers.specs.Addresses.{addressOf, isFdri, isMfwr, isLout, registerAt}
 use Rattle.config.specs.Registers.{withCrc, hold, fedCrc, written}
 use Rattle.config.specs.Control.{withRegisters, withFlags, withPartial, stopped}
 use Rattle.config.specs.Packets.{operation, count1, typeOf, type1, type2, packet, ready, counted, begin, typeOneWrite, obeyed}
 use Rattle.config.specs.Commands.{desynced, signalled, crcAfter, phaseAfter, acted}
 use Rattle.config.specs.Words.{ended, onward, put, checked, crcWord, farWord, cmdWord, stepped, frameStored, fdriWord, mfwrStored, mfwrWord, idcodeWord, flrWord, dataWord, word}
 use Rattle.config.specs.Bytes.{isSync, hunted, gathered, byte}
-use Rattle.config.specs.Consistent.{currentFits, dataFits, phaseFits, consistent}
+use Rattle.device.specs.Consistent.{currentFits, dataFits, phaseFits, consistent}
 use Rattle.registers.specs.declared.Register.{Register}
 use Rattle.registers.specs.declared.Register.the-variants as Register
 use Rattle.config.specs.declared.Registers.{Registers}
 use Rattle.registers.specs.declared.Open.{Open}
 use Rattle.registers.specs.declared.Open.the-variants as Open
 use Rattle.config.specs.declared.Packet.{Packet}
 use Rattle.config.specs.declared.Packet.the-variants as Packet
 use Rattle.config.specs.declared.Flags.{Flags}
 use Rattle.config.specs.declared.Current.{Current}
 use Rattle.config.specs.declared.Current.the-variants as Current
 use Rattle.config.specs.declared.Bytes.{Bytes}
 use Rattle.config.specs.declared.Bytes.the-variants as Bytes
 use Rattle.config.specs.declared.Control.{Control}
 use Rattle.config.specs.declared.Phase.{Phase}
 use Rattle.config.specs.declared.Phase.the-variants as Phase
 use Rattle.answers.specs.declared.Stop.{Stop}
 use Rattle.answers.specs.declared.Stop.the-variants as Stop
 use Rattle.config.specs.declared.Fed.{Fed}
 
 -- ---- the items, by name
 

@@ -1,0 +1,73 @@
+// The device record: when it is consistent, and power-on.
+mod checks; // checks.rt: the items of consistency that go by cases
+mod power; // power.rt: the record and the memory of a part that was just powered
+
+use answers::Answer;
+use config::Control;
+use config::Phase;
+ghost use mathlib.Core.Path.{_≡_};
+ghost use Rattle.device.specs.Consistent.{consistent};
+ghost use Rattle.device.specs.PowerOn.{powerOn};
+
+// The device record. Of the frame buffer the first L words count.
+pub struct Device {
+    pub phase: Phase,
+    pub control: Control,
+    pub frame: [u32; 213],
+}
+
+// The record after power-on.
+pub struct PoweredOn {
+    pub device: Device,
+    pub answer: Answer,
+}
+
+// The record is consistent.
+pub fn consistent(device: Device) -> bool
+    ensures { λ r. ⌜ r ≡ consistent (device .phase) (device .control) ⌝ }
+{
+    let phase = device.phase;
+    let control = device.control;
+    let current = control.current;
+    if 7 < control.device {
+        return false;
+    }
+    if !checks::current_fits(control.device, current) {
+        return false;
+    }
+    if 65536 <= control.registers.crc {
+        return false;
+    }
+    if 13 < control.registers.cmd {
+        return false;
+    }
+    checks::phase_fits(phase, control)
+}
+
+// Power-on: 21, then 23; a refusal gives the fresh record of device 0 and leaves the memory.
+pub fn power_on(device: u32, memory: &mut [u8]) -> PoweredOn
+    ensures { λ r. ⌜ r .device ≡ powerOn device (now (memory .entry)) .device ⌝ }
+    ensures { λ r. ⌜ r .answer ≡ powerOn device (now (memory .entry)) .answer ⌝ }
+    ensures { λ _. ⌜ now (memory .exit) ≡ powerOn device (now (memory .entry)) .memory ⌝ }
+{
+    let wanted = parts::device::memory_length(device);
+    match wanted {
+        parts::device::Figure::UnknownDevice => PoweredOn {
+            device: power::fresh(0),
+            answer: Answer::UnknownDevice,
+        },
+        parts::device::Figure::Value(n) => {
+            if memory.len() != n as usize {
+                return PoweredOn {
+                    device: power::fresh(0),
+                    answer: Answer::WrongMemory,
+                };
+            }
+            power::clear(memory);
+            PoweredOn {
+                device: power::fresh(device),
+                answer: Answer::Done,
+            }
+        }
+    }
+}
