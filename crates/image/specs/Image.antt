@@ -19,7 +19,7 @@ use Rattle.config.specs.declared.Control.{Control}
 use Rattle.config.specs.declared.Phase.{Phase}
 use Rattle.config.specs.declared.Phase.the-variants as Phase
 use Rattle.device.specs.declared.Device.{Device}
-use Rattle.loader.specs.Memory.{bytesOf}
+use Rattle.parts.specs.Memory.{bytesOf}
 
 -- ---- words 1 to 4: the phase
 

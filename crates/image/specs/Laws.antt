@@ -9,8 +9,8 @@ use native.Mathlib.Numerals.{add-one}
 use lib.Dec.{eqb}
 use lib.ListN.{length, getD, drop, set, length-append, drop-of-length-le}
 use lib.Seq.{sets, sets-eq, drop-cons, drop-drop}
-use Rattle.loader.specs.Memory.{bytesOf}
-use Rattle.loader.specs.Frames.{bytes-length}
+use Rattle.parts.specs.Memory.{bytesOf}
+use Rattle.parts.specs.Placing.{bytes-length}
 use Rattle.config.specs.declared.Phase.{Phase}
 use Rattle.config.specs.declared.Control.{Control}
 use Rattle.device.specs.declared.Device.{Device}

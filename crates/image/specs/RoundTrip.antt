@@ -16,7 +16,7 @@ use Rattle.config.specs.declared.Current.the-variants as Current
 use Rattle.config.specs.declared.Control.{Control}
 use Rattle.config.specs.declared.Phase.{Phase}
 use Rattle.config.specs.declared.Phase.the-variants as Phase
-use Rattle.loader.specs.Memory.{bytesOf}
+use Rattle.parts.specs.Memory.{bytesOf}
 use Rattle.device.specs.declared.Device.{Device}
 use Rattle.image.specs.Image.{wordsFilled, currentNumber, headWords, imageWords, image}
 use Rattle.image.specs.Compare.{isImage, starts, accepted}

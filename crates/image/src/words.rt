@@ -4,7 +4,7 @@ ghost use Prim.Native.Nat.{_+_, _*_, _≤_, _<_};
 ghost use mathlib.Core.List.{[], _∷_};
 ghost use lib.ListN.{length, getD, drop};
 ghost use lib.Seq.{sets};
-ghost use Rattle.loader.specs.Memory.{bytesOf};
+ghost use Rattle.parts.specs.Memory.{bytesOf};
 ghost use Rattle.image.specs.Compare.{starts};
 ghost use Rattle.image.specs.Decode.{wordAt};
 

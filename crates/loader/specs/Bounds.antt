@@ -34,7 +34,7 @@ lands c m (Event.Keep at w) sized p = tt
 lands c m (Event.KeepAndStore at w n) sized p = rw sized (frame-fits (c .device) n (p .target .inside))
 lands c m (Event.Store n) sized p = rw sized (frame-fits (c .device) n (p .target .inside))
 
--- so the memory after an event is `storeFrame`'s wherever it stores
+-- so the memory after an event is `placed`'s wherever it stores
 pub byte-lands : (d : Device) (m : List ℕ) (x : ℕ) → Accepted d m → Lands (lengthAt (d .control .device)) m (fedByte d x .event)
 byte-lands d m x ok = lands (d .control) m (fedByte d x .event) (ok .sized) (byte-placed (d .phase) (d .control) x (ok .fits))
 

@@ -13,11 +13,13 @@ use Rattle.config.specs.Part.{lengthAt}
 use Rattle.config.specs.Keeps.{byte-keeps}
 use Rattle.config.specs.declared.Event.{Event}
 use Rattle.config.specs.declared.Event.the-variants as Event
-use Rattle.loader.specs.Memory.{storeWithin, frameOf, buffered, stored}
+use Rattle.loader.specs.Memory.{storeWithin, buffered, stored}
 use Rattle.loader.specs.Run.{isStopped, fedByte, run}
 use Rattle.loader.specs.Load.{load}
 use Rattle.loader.specs.Pieces.{next, nextMemory, run-induction, run-invariant, load-cases}
-use Rattle.loader.specs.Frames.{store-length, store-other}
+use Rattle.parts.specs.Memory.{frameOf}
+use Rattle.parts.specs.Placing.{placed-length, placed-other}
+use Rattle.loader.specs.Frames.{frame-size}
 use Rattle.device.specs.declared.Device.{Device}
 
 -- the frame that an event stores
@@ -66,7 +68,7 @@ module _ (l : ℕ) (m : List ℕ) where
       elim (decLe (4 * l * n + 4 * l) (length m)) [
         | yes fit ↦
             rw (le-leb (4 * l * n + 4 * l) (length m) fit)
-            (record { size = store-length l n f m fit full; frames = λ k apart. store-other l n f m fit full k (apart n (List·Memᴰ·head refl)) })
+            (record { size = placed-length l n _ m fit (frame-size l f full); frames = λ k apart. placed-other l n _ m fit (frame-size l f full) k (apart n (List·Memᴰ·head refl)) })
         | no out ↦ rw (lt-leb (4 * l * n + 4 * l) (length m) (omega arith)) kept-same
       ]
 

@@ -4,7 +4,8 @@ ghost use mathlib.Core.Path.{_≡_};
 ghost use Prim.Native.Nat.{_+_, _*_, _≤_};
 ghost use lib.ListN.{length, take, set};
 ghost use lib.Seq.{sets};
-ghost use Rattle.loader.specs.Memory.{bytesOf, storeWithin, buffered, stored};
+ghost use Rattle.parts.specs.Memory.{bytesOf};
+ghost use Rattle.loader.specs.Memory.{storeWithin, buffered, stored};
 
 // States that a buffer passed by value has 213 words, which its type tells here; does nothing.
 fn sized(frame: [u32; 213])

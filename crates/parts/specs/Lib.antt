@@ -7,3 +7,5 @@ pub mod Runs
 pub mod RoundTrip
 pub mod Frames
 pub mod Examples
+pub mod Memory
+pub mod Placing

@@ -6,7 +6,7 @@ use denote.Ref.{now}
 use lib.ListN.{length, drop}
 use borrow.Author.Tests.{not-true, not-false}
 use Rattle.image.specs.Laws.{starts-rest, starts-done, and-fails, and-goes}
-use Rattle.loader.specs.Memory.{bytesOf}
+use Rattle.parts.specs.Memory.{bytesOf}
 use Rattle.image.specs.Compare.{starts}
 use native.Mathlib.Omega.{arith}
 use Rattle.image.proofs.words.has_words.Statement.{statement}

@@ -3,7 +3,7 @@
 use mathlib.Core.Path.{_≡_}
 use Prim.Native.Nat.{suc, _+_}
 use lib.ListN.{length-set}
-use Rattle.loader.specs.Memory.{bytesOf}
+use Rattle.parts.specs.Memory.{bytesOf}
 use borrow.Author.Needs.{needs}
 use native.Mathlib.Omega.{arith}
 use Rattle.image.proofs.words.put_word.Statement.{statement}

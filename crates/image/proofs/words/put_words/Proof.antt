@@ -6,7 +6,7 @@ use denote.Ref.{now}
 use lib.ListN.{length, drop}
 use lib.Seq.{sets}
 use Rattle.image.specs.Laws.{sets-word, sets-done}
-use Rattle.loader.specs.Memory.{bytesOf}
+use Rattle.parts.specs.Memory.{bytesOf}
 use native.Mathlib.Omega.{arith}
 use Rattle.image.proofs.words.put_words.Statement.{statement}
 use Rattle.image.proofs.words.put_words.Tie as tie

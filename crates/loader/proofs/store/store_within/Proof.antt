@@ -9,7 +9,8 @@ use borrow.Author.Needs.{needs}
 use borrow.Author.Tests.{le-leb, lt-leb}
 use denote.Ref.{now}
 use Rattle.loader.specs.Memory.{storeWithin}
-use Rattle.loader.specs.Frames.{store-sets}
+use Rattle.parts.specs.Placing.{placed-sets}
+use Rattle.loader.specs.Frames.{frame-size}
 use Rattle.loader.proofs.store.store_within.Statement.{statement}
 use Rattle.loader.proofs.store.store_within.Tie as tie
 
@@ -41,7 +42,7 @@ returns c =
     let a = c .before .before .before .before .before .before .before .args in
     let fits = c .before .before .before .before .before .if1 .taken in
     rw (le-leb (4 * a .words * a .n + 4 * a .words) (length (now (a .memory))) fits)
-    (c .before .before .write-words .ensures ∙ store-sets (a .words) (a .n) (now (a .frame)) (now (a .memory)) fits (omega (arith, c .before .before .before .before .full .ensures)))
+    (c .before .before .write-words .ensures ∙ placed-sets (a .words) (a .n) _ (now (a .memory)) fits (frame-size (a .words) (now (a .frame)) (omega (arith, c .before .before .before .before .full .ensures))))
 
 returns-2 : tie.Need-returns-2
 unfolding storeWithin

@@ -7,7 +7,7 @@ use lib.ListN.{length, take, drop, length-set}
 use lib.Seq.{sets}
 use borrow.Author.Needs.{needs}
 use denote.Ref.{now}
-use Rattle.loader.specs.Memory.{bytesOf}
+use Rattle.parts.specs.Memory.{bytesOf}
 use Rattle.loader.specs.Frames.{write-next, write-end}
 use Rattle.loader.proofs.store.write_words.Statement.{statement}
 use Rattle.loader.proofs.store.write_words.Tie as tie
