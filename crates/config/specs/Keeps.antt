@@ -4,8 +4,8 @@ use mathlib.Core.Path.{_≡_, _∙_, refl}
 use mathlib.Core.Bool.{Bool, true, _||_}
 use Prim.Native.Nat.{ℕ, _+_}
 use lib.Dec.{eqb, leb, ltb}
-use Rattle.config.specs.Cases.{either}
-use Rattle.config.specs.Part.{idcodeAt, lengthAt}
+use Rattle.parts.specs.Cases.{either}
+use Rattle.parts.specs.Device.{idcodeAt, lengthAt}
 use Rattle.registers.specs.Addresses.{registerAt}
 use Rattle.config.specs.Control.{withPartial, fed}
 use Rattle.config.specs.Packets.{ready, counted, begin, typeOneWrite, obeyed, packet, headerWord}

@@ -5,6 +5,5 @@ pub mod Packets
 pub mod Commands
 pub mod Words
 pub mod Bytes
-pub mod Cases
 pub mod Keeps
 pub mod Stopping

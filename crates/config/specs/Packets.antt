@@ -3,7 +3,7 @@
 use Prim.Native.Nat.{ℕ, _/_, _%_, _^_}
 use mathlib.Core.Bool.{Bool, true, cond, _&&_}
 use lib.Dec.{eqb}
-use Rattle.config.specs.Part.{lengthAt}
+use Rattle.parts.specs.Device.{lengthAt}
 use Rattle.registers.specs.Addresses.{isFdri, isMfwr, registerAt}
 use Rattle.config.specs.Control.{fed, stopped}
 use Rattle.registers.specs.declared.Register.{Register}

@@ -5,8 +5,8 @@ use mathlib.Core.Bool.{Bool, true, false, false≢true}
 use Prim.Native.Nat.{ℕ, _+_}
 use lib.Dec.{eqb, leb, ltb}
 use Rattle.crc16.specs.Register.{feed}
-use Rattle.config.specs.Cases.{either}
-use Rattle.config.specs.Part.{idcodeAt, lengthAt}
+use Rattle.parts.specs.Cases.{either}
+use Rattle.parts.specs.Device.{idcodeAt, lengthAt}
 use Rattle.registers.specs.Addresses.{isFdri, registerAt}
 use Rattle.config.specs.Registers.{withCrc}
 use Rattle.config.specs.Control.{withRegisters, withPartial, fed, stopped}

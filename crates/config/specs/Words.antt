@@ -4,7 +4,8 @@ use Prim.Native.Nat.{ℕ, _+_, _-_}
 use mathlib.Core.Bool.{Bool, cond}
 use lib.Dec.{eqb, leb, ltb}
 use Rattle.crc16.specs.Register.{feed}
-use Rattle.config.specs.Part.{idcodeAt, lengthAt, countAt, named}
+use Rattle.parts.specs.Device.{idcodeAt, lengthAt, countAt}
+use Rattle.config.specs.Part.{named}
 use Rattle.registers.specs.Addresses.{isFdri}
 use Rattle.config.specs.Registers.{withCrc, written}
 use Rattle.config.specs.Control.{withRegisters, withFlags, withCurrent, withIdcodeOk, withFlrOk, withBufferValid, withChecked, fed, stopped}

@@ -3,7 +3,8 @@ use crate::Current;
 use parts::device::value_of;
 use parts::frame::NumberAnswer;
 ghost use mathlib.Core.Path.{_≡_};
-ghost use Rattle.config.specs.Part.{idcodeAt, lengthAt, countAt, named};
+ghost use Rattle.parts.specs.Device.{idcodeAt, lengthAt, countAt};
+ghost use Rattle.config.specs.Part.{named};
 
 pub(crate) fn idcode_at(device: u32) -> u32
     ensures { λ r. ⌜ r ≡ idcodeAt device ⌝ }

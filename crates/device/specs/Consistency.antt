@@ -9,9 +9,14 @@ use lib.Dec.{eqb, leb, ltb}
 use borrow.Author.Tests.{lt-ltb, le-leb, eq-eqb, ltb-true, ltb-false, leb-true, leb-false, eqb-true, eqb-false}
 use Rattle.crc16.specs.Register.{feed}
 use Rattle.crc16.specs.Bounds.{feed-lt}
-use Rattle.config.specs.Cases.{either}
-use Rattle.config.specs.Part.{idcodeAt, lengthAt, countAt}
-use Rattle.device.specs.Figures.{figures, named-fits}
+use Rattle.parts.specs.Cases.{either}
+use Rattle.parts.specs.Device.{idcodeAt, lengthAt, countAt}
+use Rattle.parts.specs.Figures.{figures}
+use Rattle.parts.specs.Address.{frameNumber}
+use Rattle.parts.specs.Frames.{number-below}
+use Rattle.parts.specs.declared.frame.NumberAnswer.{NumberAnswer}
+use Rattle.parts.specs.declared.frame.NumberAnswer.the-variants as NumberAnswer
+use Rattle.config.specs.Part.{currentOf, named}
 use Rattle.registers.specs.Addresses.{addressOf, isFdri, isMfwr, isLout, registerAt}
 use Rattle.config.specs.Registers.{withCrc, hold, fedCrc, written}
 use Rattle.config.specs.Control.{withRegisters, withFlags, withPartial, stopped}
@@ -164,6 +169,16 @@ filled-up : (left filled l : ℕ) → Filling left filled l → 1 < left → l �
 filled-up left filled l k h b =
     let e : filled + left ≡ 0 + (left - 1) + l = omega arith in
     record { low = omega arith; high = omega arith; below = omega arith; whole = sym (add-mod-right (0 + (left - 1)) l) ∙ rw (← e) (k .whole) }
+
+-- 01: the frame that an address names is under F
+pub named-fits : (d a : ℕ) → d ≤ 7 → currentFits d (named d a) ≡ true
+unfolding currentFits currentOf
+named-fits d a h = go (frameNumber d a) refl
+  where
+    go : (q : NumberAnswer) → frameNumber d a ≡ q → currentFits d (currentOf q) ≡ true
+    go (NumberAnswer.Number n) e = let f = figures d h in lt-ltb n (countAt d) (omega (arith, number-below d (f .part) a n (f .known) e, f .count))
+    go NumberAnswer.NoFrame e = refl
+    go NumberAnswer.UnknownDevice e = refl
 
 -- 01: the current frame "steps on by one (after F-1: none)"
 stepped-fits : (d n : ℕ) → currentFits d (stepped d n) ≡ true

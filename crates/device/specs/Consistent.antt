@@ -4,7 +4,7 @@
 use Prim.Native.Nat.{ℕ, _+_, _%_}
 use mathlib.Core.Bool.{Bool, true, not, cond, _&&_}
 use lib.Dec.{eqb, leb, ltb}
-use Rattle.config.specs.Part.{lengthAt, countAt}
+use Rattle.parts.specs.Device.{lengthAt, countAt}
 use Rattle.registers.specs.Addresses.{isFdri, isMfwr}
 use Rattle.registers.specs.declared.Register.{Register}
 use Rattle.config.specs.declared.Current.{Current}

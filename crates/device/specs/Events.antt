@@ -7,9 +7,9 @@ use native.Mathlib.Omega.{arith}
 use lib.Dec.{eqb, leb, ltb}
 use borrow.Author.Tests.{ltb-true}
 use Rattle.crc16.specs.Register.{feed}
-use Rattle.config.specs.Cases.{either}
-use Rattle.config.specs.Part.{idcodeAt, lengthAt, countAt}
-use Rattle.device.specs.Figures.{figures}
+use Rattle.parts.specs.Cases.{either}
+use Rattle.parts.specs.Device.{idcodeAt, lengthAt, countAt}
+use Rattle.parts.specs.Figures.{figures}
 use Rattle.registers.specs.Addresses.{addressOf}
 use Rattle.config.specs.Control.{withPartial}
 use Rattle.config.specs.Packets.{headerWord}

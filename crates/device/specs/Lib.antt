@@ -1,5 +1,4 @@
 pub mod Consistent
 pub mod PowerOn
-pub mod Figures
 pub mod Consistency
 pub mod Events

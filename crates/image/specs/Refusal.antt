@@ -6,7 +6,7 @@ use mathlib.Core.List.{List}
 use Prim.Native.Nat.{ℕ, _+_, _%_}
 use lib.Dec.{eqb, leb, ltb}
 use Rattle.registers.specs.Addresses.{isFdri, isMfwr}
-use Rattle.config.specs.Part.{lengthAt}
+use Rattle.parts.specs.Device.{lengthAt}
 use Rattle.device.specs.Consistent.{currentFits, dataFits, phaseFits, consistent}
 use Rattle.config.specs.declared.Current.{Current}
 use Rattle.config.specs.declared.Current.the-variants as Current

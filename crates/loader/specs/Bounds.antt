@@ -6,7 +6,7 @@ use mathlib.Core.Bool.{true}
 use Prim.Native.Nat.{ℕ, _+_, _*_, _≤_}
 use lib.ListN.{length, drop}
 use lib.Seq.{drop-set-lt}
-use Rattle.config.specs.Part.{lengthAt}
+use Rattle.parts.specs.Device.{lengthAt}
 use Rattle.device.specs.Consistent.{consistent}
 use Rattle.device.specs.Consistency.{byte-consistent}
 use Rattle.config.specs.Keeps.{byte-keeps}
@@ -16,9 +16,9 @@ use Rattle.config.specs.declared.Event.{Event}
 use Rattle.config.specs.declared.Event.the-variants as Event
 use Rattle.loader.specs.Memory.{buffered}
 use Rattle.loader.specs.Run.{fedByte, run}
-use Rattle.loader.specs.Load.{memoryAt}
+use Rattle.parts.specs.Device.{memoryAt}
 use Rattle.loader.specs.Pieces.{run-invariant, Accepted}
-use Rattle.loader.specs.Frames.{frame-fits}
+use Rattle.parts.specs.Figures.{frame-fits}
 use Rattle.device.specs.declared.Device.{Device}
 
 -- the frame that an event stores, of l words, lies in the memory

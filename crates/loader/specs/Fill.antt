@@ -11,7 +11,7 @@ use lib.ListN.{length, getD, drop, set}
 use lib.Seq.{drop-cons}
 use borrow.Author.Tests.{lt-ltb, lt-leb}
 use Rattle.crc16.specs.Register.{feed}
-use Rattle.config.specs.Part.{lengthAt}
+use Rattle.parts.specs.Device.{lengthAt}
 use Rattle.registers.specs.Addresses.{addressOf}
 use Rattle.config.specs.Registers.{fedCrc, hold}
 use Rattle.config.specs.Control.{withRegisters, withPartial, fed}

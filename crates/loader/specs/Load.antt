@@ -5,7 +5,7 @@ use mathlib.Core.List.{List}
 use mathlib.Core.Bool.{cond}
 use lib.Dec.{eqb}
 use lib.ListN.{length}
-use Rattle.parts.specs.Device.{figure, memoryLength, valueOf}
+use Rattle.parts.specs.Device.{memoryAt}
 use Rattle.device.specs.Consistent.{consistent}
 use Rattle.device.specs.PowerOn.{Outcome}
 use Rattle.config.specs.declared.Phase.{Phase}
@@ -22,10 +22,6 @@ answerOf (Phase.Header o) = Answer.Done
 answerOf (Phase.Data r left filled) = Answer.Done
 answerOf Phase.Crc = Answer.Done
 answerOf (Phase.Stopped s) = Answer.Stopped s
-
--- the length that the memory of the record's part has
-abbrev pub memoryAt : ℕ → ℕ
-memoryAt d = valueOf (figure memoryLength d)
 
 -- 01: refusals "change no memory and hand the same record back"; "taken is 0"
 abbrev pub refused : Answer → Device → List ℕ → Outcome

@@ -17,7 +17,8 @@ use Rattle.config.specs.declared.Phase.the-variants as Phase
 use Rattle.answers.specs.declared.Stop.{Stop}
 use Rattle.loader.specs.Run.{isStopped, fedByte, deviceAfter, memoryAfter, Ran, ran, after, run}
 use Rattle.device.specs.PowerOn.{Outcome}
-use Rattle.loader.specs.Load.{answerOf, memoryAt, refused, finished, load}
+use Rattle.parts.specs.Device.{memoryAt}
+use Rattle.loader.specs.Load.{answerOf, refused, finished, load}
 use Rattle.device.specs.declared.Device.{Device}
 use Rattle.answers.specs.declared.Answer.{Answer}
 use Rattle.answers.specs.declared.Answer.the-variants as Answer

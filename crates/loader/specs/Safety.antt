@@ -8,7 +8,7 @@ use Prim.Native.Nat.{ℕ, _≤_}
 use native.Mathlib.Decide.{ℕ-discrete}
 use native.Mathlib.Omega.{arith}
 use lib.ListN.{length}
-use Rattle.config.specs.Part.{lengthAt}
+use Rattle.parts.specs.Device.{lengthAt}
 use Rattle.config.specs.Control.{withPartial, stopped}
 use Rattle.device.specs.Consistent.{consistent}
 use Rattle.device.specs.Consistency.{byte-consistent}
@@ -23,12 +23,13 @@ use Rattle.config.specs.declared.Phase.{Phase}
 use Rattle.config.specs.declared.Phase.the-variants as Phase
 use Rattle.loader.specs.Run.{isStopped, Ran, ran, run}
 use Rattle.device.specs.PowerOn.{Outcome}
-use Rattle.loader.specs.Load.{answerOf, memoryAt, load}
+use Rattle.parts.specs.Device.{memoryAt}
+use Rattle.loader.specs.Load.{answerOf, load}
 use Rattle.answers.specs.declared.Answer.the-variants as Answer
 use Rattle.loader.specs.Pieces.{run-invariant, run-append, taken-le, taken-all, load-accepted, load-inconsistent, load-wrong-memory, load-cases, accepted-again, later, load-append}
 use Rattle.loader.specs.Words.{takesWords, partial-empty, fedWord, word-run}
 use Rattle.loader.specs.Words.{word-stops as run-stops}
-use Rattle.loader.specs.Frames.{length-fits}
+use Rattle.parts.specs.Figures.{length-fits}
 use Rattle.loader.specs.Kept.{run-device, run-keeps}
 use Rattle.device.specs.declared.Device.{Device}
 

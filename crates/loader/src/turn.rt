@@ -12,7 +12,7 @@ ghost use mathlib.Core.Bool.{true, false};
 ghost use mathlib.Core.List.{List};
 ghost use Prim.Native.Nat.{ℕ, _+_, _-_, _*_, _≤_, _<_};
 ghost use lib.ListN.{length};
-ghost use Rattle.config.specs.Part.{lengthAt};
+ghost use Rattle.parts.specs.Device.{lengthAt};
 ghost use Rattle.registers.specs.declared.Register.the-variants as Register;
 ghost use Rattle.config.specs.declared.Bytes.the-variants as Bytes;
 ghost use Rattle.config.specs.declared.Phase.the-variants as Phase;

@@ -78,3 +78,20 @@ frameCount p = 45 + 19 * p .columns + 95 * p .«ram_columns»
 -- 01: "Memory is 4·L·F bytes"
 unfoldable pub memoryLength : Part → ℕ
 memoryLength p = 4 * frameLength p * frameCount p
+
+-- ---- the figures of a device number; 0 where it names no part
+
+abbrev pub idcodeAt : ℕ → ℕ
+idcodeAt d = valueOf (figure idcodeOf d)
+
+-- L
+abbrev pub lengthAt : ℕ → ℕ
+lengthAt d = valueOf (figure frameLength d)
+
+-- F
+abbrev pub countAt : ℕ → ℕ
+countAt d = valueOf (figure frameCount d)
+
+-- 4·L·F
+abbrev pub memoryAt : ℕ → ℕ
+memoryAt d = valueOf (figure memoryLength d)

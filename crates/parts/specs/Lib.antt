@@ -9,3 +9,5 @@ pub mod Frames
 pub mod Examples
 pub mod Memory
 pub mod Placing
+pub mod Figures
+pub mod Cases

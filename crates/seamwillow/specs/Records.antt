@@ -11,7 +11,8 @@ use borrow.Author.Tests.{eq-eqb, ne-eqb}
 use Rattle.device.specs.Consistent.{consistent}
 use Rattle.answers.specs.Numbers.{answerNumber}
 use Rattle.device.specs.PowerOn.{Outcome, powerOn}
-use Rattle.loader.specs.Load.{memoryAt, load}
+use Rattle.parts.specs.Device.{memoryAt}
+use Rattle.loader.specs.Load.{load}
 use Rattle.loader.specs.Pieces.{load-inconsistent, load-wrong-memory}
 use Rattle.image.specs.Image.{encoded}
 use Rattle.image.specs.Decode.{decoded}

@@ -6,7 +6,8 @@ use borrow.Author.Needs.{needs}
 use borrow.Author.Tests.{not-true, not-false}
 use denote.Ref.{now}
 use Rattle.device.specs.Consistent.{consistent}
-use Rattle.loader.specs.Load.{answerOf, memoryAt}
+use Rattle.parts.specs.Device.{memoryAt}
+use Rattle.loader.specs.Load.{answerOf}
 use Rattle.loader.specs.Pieces.{load-accepted, load-inconsistent, load-wrong-memory}
 use Rattle.device.specs.declared.Device.{Device}
 use Rattle.loader.proofs.load.Statement.{statement}

@@ -8,7 +8,7 @@ use native.Mathlib.Omega.{arith}
 use lib.ListN.{length, drop, drop-of-length-le}
 use borrow.Author.Needs.{needs}
 use denote.Ref.{now}
-use Rattle.config.specs.Part.{lengthAt}
+use Rattle.parts.specs.Device.{lengthAt}
 use Rattle.loader.specs.Run.{Ran, ran, after, run}
 use Rattle.loader.specs.Pieces.{stopped-run, after-zero, after-after}
 use Rattle.loader.specs.Fill.{device}

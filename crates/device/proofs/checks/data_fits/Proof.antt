@@ -3,7 +3,7 @@
 use mathlib.Core.Path.{_≡_}
 use borrow.Author.Needs.{needs}
 use borrow.Author.Tests.{eq-eqb, ne-eqb, lt-ltb, le-ltb, le-leb, lt-leb}
-use Rattle.config.specs.Part.{lengthAt}
+use Rattle.parts.specs.Device.{lengthAt}
 use Rattle.device.specs.Consistent.{dataFits}
 use Rattle.device.proofs.checks.data_fits.Statement.{statement}
 use Rattle.device.proofs.checks.data_fits.Tie as tie

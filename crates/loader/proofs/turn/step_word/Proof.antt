@@ -2,7 +2,7 @@
 -- By the turn of what the control machine makes of the word, which `finish` applies.
 use borrow.Author.Needs.{needs}
 use denote.Ref.{now}
-use Rattle.loader.specs.Frames.{length-fits}
+use Rattle.parts.specs.Figures.{length-fits}
 use Rattle.loader.specs.Turn.{word-turn, fed-turn}
 use Rattle.loader.proofs.turn.step_word.Statement.{statement}
 use Rattle.loader.proofs.turn.step_word.Tie as tie
