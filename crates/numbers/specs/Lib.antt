@@ -1,0 +1,3 @@
+pub mod Number
+pub mod Groups
+pub mod Code

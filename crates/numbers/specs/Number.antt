@@ -1,0 +1,30 @@
+-- The number that begins at an offset.
+-- Source: 01, "Layouts": "A layout's numbers are groups of seven bits, low group first, top bit set on all but the last byte,
+-- shortest form only, at most 4,294,967,295 (so a fifth byte above 15 is a bad form at once)".
+use Prim.Native.Nat.{ℕ, zero, suc, _+_, _-_, _*_}
+use mathlib.Core.List.{List, [], _∷_}
+use mathlib.Core.Bool.{Bool, true, false, cond, not, _&&_}
+use lib.Dec.{eqb, ltb}
+use lib.ListN.{drop}
+use Rattle.answers.specs.declared.layout.Cause.the-variants as Cause
+use Rattle.numbers.specs.declared.Number.{Number}
+use Rattle.numbers.specs.declared.Number.the-variants as Number
+
+-- the last byte of a number; "shortest form only": it is 0 only where it is the first byte too
+unfoldable pub lastGroup : Bool → ℕ → ℕ → Number
+lastGroup first x next = cond (eqb x 0 && not first) (Number.Refused Cause.BadForm) (Number.Value x next)
+
+-- "low group first": a group of seven bits before the number of the other groups
+unfoldable pub lowGroup : ℕ → Number → Number
+lowGroup x (Number.Value v next) = Number.Value (x + 128 * v) next
+lowGroup x (Number.Refused c) = Number.Refused c
+
+-- the bytes from offset i on, of which k may have the top bit set
+unfoldable pub groups : ℕ → Bool → ℕ → List ℕ → Number
+groups k first i [] = Number.Refused Cause.Missing
+groups zero first i (x ∷ xs) = cond (ltb 15 x) (Number.Refused Cause.BadForm) (lastGroup first x (i + 1))
+groups (suc k) first i (x ∷ xs) = cond (ltb x 128) (lastGroup first x (i + 1)) (lowGroup (x - 128) (groups k false (i + 1) xs))
+
+-- five bytes at most
+abbrev pub numberAt : List ℕ → ℕ → Number
+numberAt b at = groups 4 true at (drop at b)
