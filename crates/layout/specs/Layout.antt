@@ -1,0 +1,75 @@
+-- Reading a whole layout, and checking it for a device and the range that the desk names.
+-- Sources: 01, "Layouts": "A layout: edition 1, device, step count (at most 4096), steps, end"; "Checks: 21, 37, then the layout
+-- from front to back"; "The stream that is written": the count of words.
+use Prim.Native.Nat.{ℕ, _+_, _*_}
+use mathlib.Core.List.{List, [], _∷_}
+use mathlib.Core.Bool.{Bool, cond}
+use lib.Dec.{eqb, ltb}
+use lib.ListN.{length}
+use Rattle.parts.specs.Device.{figure, frameCount, lengthAt}
+use Rattle.parts.specs.declared.device.Figure.{Figure}
+use Rattle.parts.specs.declared.device.Figure.the-variants as Figure
+use Rattle.answers.specs.declared.layout.Cause.the-variants as Cause
+use Rattle.answers.specs.declared.layout.Verdict.{Verdict}
+use Rattle.answers.specs.declared.layout.Verdict.the-variants as Verdict
+use Rattle.numbers.specs.Number.{numberAt}
+use Rattle.numbers.specs.declared.Number.{Number}
+use Rattle.numbers.specs.declared.Number.the-variants as Number
+use Rattle.layout.specs.Range.{owns}
+use Rattle.layout.specs.Step.{Step, FrameWrite, MultiFrameWrite, Reading, Read, Refused}
+use Rattle.layout.specs.Reader.{stepsAt}
+use Rattle.layout.specs.declared.FrameRange.{FrameRange}
+
+module _ (l f : ℕ) (own : ℕ → Bool) (b : List ℕ) where
+  -- "for extra bytes, the first of them"
+  unfoldable pub ended : Reading (List Step) → Reading (List Step)
+  ended (Reading.Read ss next) = cond (ltb next (length b)) (Refused Cause.Trailing next) (Read ss next)
+  ended (Reading.Refused c at) = Refused c at
+
+  -- "step count (at most 4096)"
+  unfoldable pub countRead : ℕ → Number → Reading (List Step)
+  countRead at (Number.Value n next) = cond (ltb 4096 n) (Refused Cause.TooManySteps at) (ended (stepsAt l f own b n next))
+  countRead at (Number.Refused c) = Refused c at
+
+  -- the layout's device is d
+  unfoldable pub deviceRead : ℕ → ℕ → Number → Reading (List Step)
+  deviceRead d at (Number.Value v next) = cond (eqb v d) (countRead next (numberAt b next)) (Refused Cause.WrongDevice at)
+  deviceRead d at (Number.Refused c) = Refused c at
+
+  -- "edition 1"
+  unfoldable pub editionRead : ℕ → Number → Reading (List Step)
+  editionRead d (Number.Value v next) = cond (eqb v 1) (deviceRead d next (numberAt b next)) (Refused Cause.WrongEdition 0)
+  editionRead d (Number.Refused c) = Refused c 0
+
+  abbrev pub layoutRead : ℕ → Reading (List Step)
+  layoutRead d = editionRead d (numberAt b 0)
+
+-- ---- the words of the stream
+
+-- "plus 7 + (k+1)·L for kind 1, 7 + L + 5k for kind 2"
+unfoldable pub stepWords : ℕ → Step → ℕ
+stepWords l (FrameWrite n fs) = 7 + (length fs + 1) * l
+stepWords l (MultiFrameWrite x ts) = 7 + l + 5 * length ts
+
+unfoldable pub stepsWords : ℕ → List Step → ℕ
+stepsWords l [] = 0
+stepsWords l (s ∷ ss) = stepWords l s + stepsWords l ss
+
+-- "Words: 12, plus"
+abbrev pub streamWords : ℕ → List Step → ℕ
+streamWords l ss = 12 + stepsWords l ss
+
+-- ---- the check
+
+unfoldable pub verdictOf : ℕ → Reading (List Step) → Verdict
+verdictOf l (Reading.Read ss next) = Verdict.Accepted (4 * streamWords l ss)
+verdictOf l (Reading.Refused c at) = Verdict.Refused c at
+
+-- "Checks: 21, 37, then the layout"; 37: "seat's first frame plus count above F"
+unfoldable pub checkFor : Figure → ℕ → FrameRange → List ℕ → Verdict
+checkFor (Figure.Value f) d r b =
+    cond (ltb f (r .first + r .count)) Verdict.WrongRange (verdictOf (lengthAt d) (layoutRead (lengthAt d) f (owns r) b d))
+checkFor Figure.UnknownDevice d r b = Verdict.UnknownDevice
+
+abbrev pub check : ℕ → FrameRange → List ℕ → Verdict
+check d r b = checkFor (figure frameCount d) d r b

@@ -1,0 +1,14 @@
+pub mod Range
+pub mod Step
+pub mod Reader
+pub mod Layout
+pub mod Machine
+pub mod Views
+pub mod Converse
+pub mod Whole
+pub mod Narrow
+pub mod Accepted
+pub mod Kept
+pub mod Coding
+pub mod Examples
+pub mod Loops

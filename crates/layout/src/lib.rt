@@ -1,0 +1,32 @@
+// The layout reader: checks a layout for a device and the frames that the desk names.
+mod head; // head.rt: edition, device, step count and the list of steps
+mod range; // range.rt: which frames are owned
+pub mod step; // step.rt: one step
+mod targets; // targets.rt: the targets of a step
+
+use answers::layout::Verdict;
+use parts::device::Figure;
+ghost use mathlib.Core.Path.{_≡_};
+ghost use Rattle.layout.specs.Layout.{check};
+
+// The frames that the desk names: 01's seat.
+pub struct FrameRange {
+    pub first: u32,
+    pub count: u32,
+}
+
+// Checks a layout: 21, 37, then the layout front to back. Accepted: with the length of its stream in bytes.
+pub fn check(device: u32, range: FrameRange, layout: &[u8]) -> Verdict
+    ensures { λ r. ⌜ r ≡ check device range (now (layout .entry)) ⌝ }
+{
+    let frames = parts::device::frame_count(device);
+    match frames {
+        Figure::UnknownDevice => Verdict::UnknownDevice,
+        Figure::Value(f) => {
+            if (f as u64) < range.first as u64 + range.count as u64 {
+                return Verdict::WrongRange;
+            }
+            head::layout_edition(device, range, layout)
+        }
+    }
+}

@@ -1,0 +1,174 @@
+// One step of a layout.
+use crate::FrameRange;
+use crate::range::owns_run;
+use crate::targets::multi_targets;
+use answers::layout::Cause;
+use numbers::Number;
+use numbers::read_number;
+use parts::device::frame_count;
+use parts::device::frame_length;
+use parts::device::value_of;
+ghost use mathlib.Core.Path.{_≡_};
+ghost use Prim.Native.Nat.{_≤_};
+ghost use lib.ListN.{length};
+ghost use Rattle.parts.specs.Device.{lengthAt, countAt};
+ghost use Rattle.numbers.specs.Number.{numberAt};
+ghost use Rattle.layout.specs.Range.{owns};
+ghost use Rattle.layout.specs.declared.step.StepAt.the-variants as StepAt;
+ghost use Rattle.layout.specs.Reader.{judgedWrite, writeCount, writeFirst, judgedMulti, multiCount, stepAt};
+
+// A step that was read: where its frames and its targets lie, and the offset after it.
+pub enum StepAt {
+    FrameWrite {
+        first: u32,
+        count: u32,
+        body: usize,
+        next: usize,
+    },
+    MultiFrameWrite {
+        count: u32,
+        body: usize,
+        targets: usize,
+        next: usize,
+    },
+    Refused {
+        cause: Cause,
+        at: usize,
+    },
+}
+
+fn refused(cause: Cause, at: usize) -> StepAt
+    ensures { λ r. ⌜ r ≡ StepAt.Refused cause at ⌝ }
+{
+    StepAt::Refused {
+        cause: cause,
+        at: at,
+    }
+}
+
+// A FrameWrite, judged when its count is read. at and count_at are the offsets of its first frame's number and of its count.
+fn judged_write(
+    device: u32,
+    range: FrameRange,
+    layout: &[u8],
+    first: u32,
+    at: usize,
+    count: u32,
+    count_at: usize,
+    body: usize,
+) -> StepAt
+    requires { ⌜ body ≤ length (now layout) ⌝ }
+    ensures { λ r. ⌜ r ≡ judgedWrite (lengthAt device) (countAt device) (owns range) (now (layout .entry)) first at count «count_at» body ⌝ }
+{
+    if count == 0 {
+        return refused(Cause::ZeroCount, count_at);
+    }
+    if (value_of(frame_count(device)) as u64) < first as u64 + count as u64 {
+        return refused(Cause::OutsidePart, at);
+    }
+    if !owns_run(range, first, count) {
+        return refused(Cause::OutsideRange, at);
+    }
+    let size = 4 * value_of(frame_length(device)) as usize * count as usize;
+    if layout.len() - body < size {
+        return refused(Cause::Missing, layout.len());
+    }
+    StepAt::FrameWrite {
+        first: first,
+        count: count,
+        body: body,
+        next: body + size,
+    }
+}
+
+// The count of a FrameWrite.
+fn write_count(
+    device: u32,
+    range: FrameRange,
+    layout: &[u8],
+    first: u32,
+    at: usize,
+    count_at: usize,
+) -> StepAt
+    ensures { λ r. ⌜ r ≡ writeCount (lengthAt device) (countAt device) (owns range) (now (layout .entry)) first at «count_at» (numberAt (now (layout .entry)) «count_at») ⌝ }
+{
+    let read = read_number(layout, count_at);
+    match read {
+        Number::Refused(cause) => refused(cause, count_at),
+        Number::Value { value, next } => judged_write(
+            device,
+            range,
+            layout,
+            first,
+            at,
+            value,
+            count_at,
+            next,
+        ),
+    }
+}
+
+// The first frame of a FrameWrite.
+fn write_first(device: u32, range: FrameRange, layout: &[u8], at: usize) -> StepAt
+    ensures { λ r. ⌜ r ≡ writeFirst (lengthAt device) (countAt device) (owns range) (now (layout .entry)) at (numberAt (now (layout .entry)) at) ⌝ }
+{
+    let read = read_number(layout, at);
+    match read {
+        Number::Refused(cause) => refused(cause, at),
+        Number::Value { value, next } => write_count(device, range, layout, value, at, next),
+    }
+}
+
+// A MultiFrameWrite, judged when its count is read. at is the offset of its count.
+fn judged_multi(
+    device: u32,
+    range: FrameRange,
+    layout: &[u8],
+    count: u32,
+    at: usize,
+    body: usize,
+) -> StepAt
+    requires { ⌜ body ≤ length (now layout) ⌝ }
+    ensures { λ r. ⌜ r ≡ judgedMulti (lengthAt device) (countAt device) (owns range) (now (layout .entry)) count at body ⌝ }
+{
+    if count == 0 {
+        return refused(Cause::ZeroCount, at);
+    }
+    if value_of(frame_count(device)) < count {
+        return refused(Cause::OutsidePart, at);
+    }
+    if layout.len() - body < 4 * value_of(frame_length(device)) as usize {
+        return refused(Cause::Missing, layout.len());
+    }
+    multi_targets(device, range, layout, count, body)
+}
+
+// The count of a MultiFrameWrite.
+fn multi_count(device: u32, range: FrameRange, layout: &[u8], at: usize) -> StepAt
+    ensures { λ r. ⌜ r ≡ multiCount (lengthAt device) (countAt device) (owns range) (now (layout .entry)) at (numberAt (now (layout .entry)) at) ⌝ }
+{
+    let read = read_number(layout, at);
+    match read {
+        Number::Refused(cause) => refused(cause, at),
+        Number::Value { value, next } => judged_multi(device, range, layout, value, at, next),
+    }
+}
+
+// The step at an offset.
+pub fn read_step(device: u32, range: FrameRange, layout: &[u8], at: usize) -> StepAt
+    ensures { λ r. ⌜ r ≡ stepAt (lengthAt device) (countAt device) (owns range) (now (layout .entry)) at ⌝ }
+{
+    let kind = read_number(layout, at);
+    match kind {
+        Number::Refused(cause) => refused(cause, at),
+        Number::Value { value, next } => {
+            if value == 1 {
+                return write_first(device, range, layout, next);
+            }
+            if value == 2 {
+                return multi_count(device, range, layout, next);
+            }
+            refused(Cause::UnknownKind, at)
+        }
+    }
+}

@@ -1,0 +1,168 @@
+// Prints document 01's worked examples of layouts, and a way to each refusal, as the proved library answers them.
+use answers::layout::verdict_number;
+use answers::layout::verdict_value;
+use layout::FrameRange;
+use layout::check;
+use libc::STDOUT_FILENO;
+
+fn text(s: &[u8]) {
+    io::write_all(STDOUT_FILENO, s);
+}
+
+fn decimal(n: u64) {
+    io::print_decimal(STDOUT_FILENO, n);
+}
+
+// A label, then the length of the stream, or the refusal and its offset.
+fn print_check(label: &[u8], device: u32, range: FrameRange, layout: &[u8]) {
+    let verdict = check(device, range, layout);
+    let number = verdict_number(verdict);
+    let value = verdict_value(verdict);
+    text(label);
+    if number == 0 {
+        text(b": ");
+        decimal(value);
+        text(b" bytes\n");
+        return;
+    }
+    text(b": ");
+    decimal(number as u64);
+    text(b" at ");
+    decimal(value);
+    text(b"\n");
+}
+
+// All frames of the XC3S50.
+fn whole() -> FrameRange {
+    FrameRange {
+        first: 0,
+        count: 368,
+    }
+}
+
+fn some(first: u32, count: u32) -> FrameRange {
+    FrameRange {
+        first: first,
+        count: count,
+    }
+}
+
+fn print_heads() {
+    print_check(b"no bytes", 0, whole(), b"");
+    print_check(b"81 00 00 00", 0, whole(), b"\x81\x00\x00\x00");
+    print_check(b"02 00 00", 0, whole(), b"\x02\x00\x00");
+    print_check(b"01 01 00", 0, whole(), b"\x01\x01\x00");
+    print_check(b"01 00 00", 0, whole(), b"\x01\x00\x00");
+    print_check(
+        b"01 00 00, range 364 count 4",
+        0,
+        some(364, 4),
+        b"\x01\x00\x00",
+    );
+    print_check(
+        b"01 00 00, range 364 count 5",
+        0,
+        some(364, 5),
+        b"\x01\x00\x00",
+    );
+    print_check(
+        b"01 00 00, range 368 count 0",
+        0,
+        some(368, 0),
+        b"\x01\x00\x00",
+    );
+    print_check(
+        b"01 00 00, range 369 count 0",
+        0,
+        some(369, 0),
+        b"\x01\x00\x00",
+    );
+    print_check(b"01 00 00, device 8", 8, whole(), b"\x01\x00\x00");
+    print_check(b"01 08 00", 0, whole(), b"\x01\x08\x00");
+    print_check(b"01 00 81 20, 4097 steps", 0, whole(), b"\x01\x00\x81\x20");
+    print_check(b"01 00 80 00", 0, whole(), b"\x01\x00\x80\x00");
+    print_check(
+        b"01 00 ff ff ff ff 10",
+        0,
+        whole(),
+        b"\x01\x00\xff\xff\xff\xff\x10",
+    );
+    print_check(b"01 00 ff", 0, whole(), b"\x01\x00\xff");
+    print_check(b"01 00 00 00", 0, whole(), b"\x01\x00\x00\x00");
+}
+
+// One step of kind 1, with frames of zeros.
+fn print_frame_writes() {
+    let mut b = [0u8; 451];
+    b[0] = 1;
+    b[2] = 1;
+    b[3] = 1;
+    b[5] = 1;
+    print_check(b"one frame by kind 1", 0, whole(), &b[..154]);
+    print_check(b"its last byte missing", 0, whole(), &b[..153]);
+    print_check(b"a byte after it", 0, whole(), &b[..155]);
+    b[5] = 0;
+    print_check(b"kind 1, count 0", 0, whole(), &b[..154]);
+    b[5] = 3;
+    print_check(b"three frames by kind 1", 0, whole(), &b[..450]);
+    b[4] = 0xEF;
+    b[5] = 2;
+    b[6] = 1;
+    print_check(b"kind 1, frame 367 count 1", 0, whole(), &b[..155]);
+    b[6] = 2;
+    print_check(b"kind 1, frame 367 count 2", 0, whole(), &b[..155]);
+    b[4] = 0x80;
+    b[6] = 1;
+    print_check(
+        b"01 00 01 01 80 02 01, range 0 count 256",
+        0,
+        some(0, 256),
+        &b[..7],
+    );
+    b[3] = 3;
+    print_check(b"kind 3", 0, whole(), &b[..155]);
+}
+
+// One step of kind 2, with a frame of zeros; its targets begin at 153.
+fn print_multi_frame_writes() {
+    let mut b = [0u8; 157];
+    b[0] = 1;
+    b[2] = 1;
+    b[3] = 2;
+    print_check(b"kind 2, count 0", 0, whole(), &b[..154]);
+    b[4] = 1;
+    b[153] = 5;
+    print_check(b"kind 2 to one target", 0, whole(), &b[..154]);
+    print_check(
+        b"kind 2, its frame's last byte missing",
+        0,
+        whole(),
+        &b[..152],
+    );
+    print_check(b"kind 2, its target missing", 0, whole(), &b[..153]);
+    print_check(
+        b"kind 2, target 5, range 0 count 5",
+        0,
+        some(0, 5),
+        &b[..154],
+    );
+    b[4] = 3;
+    b[154] = 6;
+    b[155] = 7;
+    print_check(b"kind 2 to three targets", 0, whole(), &b[..156]);
+    b[155] = 6;
+    print_check(b"kind 2, a target repeated", 0, whole(), &b[..156]);
+    b[4] = 2;
+    b[154] = 0xF0;
+    b[155] = 2;
+    print_check(b"kind 2, target 368", 0, whole(), &b[..156]);
+    b[4] = 0xF1;
+    b[5] = 2;
+    print_check(b"kind 2, count 369", 0, whole(), &b[..156]);
+}
+
+fn main() {
+    print_heads();
+    print_frame_writes();
+    print_multi_frame_writes();
+}
