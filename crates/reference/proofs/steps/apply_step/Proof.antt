@@ -1,0 +1,63 @@
+-- `reference::steps::apply_step` meets its contract: each arm does its kind of step.
+-- From what the calls ensure, once the step is known.
+use mathlib.Core.Path.{subst}
+use lib.ListN.{length}
+use borrow.Author.Needs.{needs}
+use denote.Ref.{now}
+use Rattle.reference.specs.List.{nextOf, stepMade, StepRoom}
+use Rattle.reference.proofs.steps.apply_step.Statement.{statement}
+use Rattle.reference.proofs.steps.apply_step.Tie as tie
+
+enum-told : tie.Need-enum-told
+enum-told c = search needs
+
+enum-known-step : tie.Need-enum-known-step
+enum-known-step c = search needs
+
+write-frames-requires : tie.Need-write-frames-requires
+write-frames-requires c κs =
+    let s = c .before .before .before .before .before .before in
+    let room = subst (StepRoom (s .args .l) (now (s .args .layout)) (length (now (s .args .memory)))) (c .before .before .step .given .1) (s .pre .1) in
+    (s .pre .0, room .bytes, room .frames)
+
+enum-known-step-2 : tie.Need-enum-known-step-2
+enum-known-step-2 c = search needs
+
+spread-frame-requires : tie.Need-spread-frame-requires
+spread-frame-requires c κs =
+    let s = c .before .before .before .before .before .before in
+    let room = subst (StepRoom (s .args .l) (now (s .args .layout)) (length (now (s .args .memory)))) (c .before .before .step2 .given .1) (s .pre .1) in
+    (s .pre .0, room .bytes, room .frames)
+
+returns : tie.Need-returns
+unfolding nextOf stepMade
+returns c = (rw (c .enum-told .given .1), rw (c .enum-told .given .1))
+
+same-length : tie.Need-same-length
+same-length c = search needs
+
+returns-2 : tie.Need-returns-2
+unfolding nextOf stepMade
+returns-2 c = let e = c .before .before .before .before .before .step .given .1 in (rw e, rw e (c .before .before .write-frames .ensures))
+
+same-length-2 : tie.Need-same-length-2
+same-length-2 c = search needs
+
+returns-3 : tie.Need-returns-3
+unfolding nextOf stepMade
+returns-3 c = let e = c .before .before .before .before .before .step2 .given .1 in (rw e, rw e (c .before .before .spread-frame .ensures))
+
+pub apply-step-spec : {M : Type 1} → statement M
+apply-step-spec =
+    tie.close
+    (tie.spec
+    enum-told
+    enum-known-step
+    write-frames-requires
+    enum-known-step-2
+    spread-frame-requires
+    returns
+    same-length
+    returns-2
+    same-length-2
+    returns-3)

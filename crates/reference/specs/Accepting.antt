@@ -1,0 +1,119 @@
+-- What an accepted check tells: the device has a part, the layout was read, its step count stands at offset 2.
+-- The layout's edition and device are numbers under 128, of one byte each; a reading for the whole part gives the same steps.
+use mathlib.Core.Path.{_≡_, _∙_, refl, sym, ap, subst}
+use Prim.Native.Nat.{ℕ, _+_, _≤_, _<_}
+use mathlib.Core.List.{List}
+use mathlib.Core.Bool.{Bool, true, false}
+use native.Mathlib.Omega.{arith}
+use lib.Dec.{leb, ltb}
+use lib.ListN.{length}
+use borrow.Author.Tests.{lt-ltb, le-leb, ltb-true, ltb-false}
+use Rattle.parts.specs.Device.{partOf, figureOf, figure, frameCount, valueOf, lengthAt, countAt}
+use Rattle.parts.specs.declared.device.Figure.{Figure}
+use Rattle.parts.specs.declared.device.Figure.the-variants as Figure
+use Rattle.parts.specs.declared.device.PartAnswer.{PartAnswer}
+use Rattle.parts.specs.declared.device.PartAnswer.the-variants as PartAnswer
+use Rattle.answers.specs.declared.layout.Cause.{Cause}
+use Rattle.answers.specs.declared.layout.Verdict.{Verdict}
+use Rattle.answers.specs.declared.layout.Verdict.the-variants as Verdict
+use Rattle.numbers.specs.Number.{numberAt}
+use Rattle.numbers.specs.Code.{number-short}
+use Rattle.numbers.specs.declared.Number.{Number}
+use Rattle.numbers.specs.declared.Number.the-variants as Number
+use Rattle.parts.specs.Cases.{either}
+use Rattle.layout.specs.Range.{range, owns}
+use Rattle.layout.specs.Step.{Step, Reading, Read}
+use Rattle.layout.specs.Reader.{stepsAt}
+use Rattle.layout.specs.Layout.{layoutRead, verdictOf, checkFor, check}
+use Rattle.layout.specs.Machine.{allDone, madeOf, machine}
+use Rattle.layout.specs.Whole.{layout-view}
+use Rattle.layout.specs.Narrow.{narrower}
+use Rattle.layout.specs.declared.FrameRange.{FrameRange}
+use Rattle.reference.specs.List.{isRead}
+
+-- the steps after a step count that was read
+unfoldable pub stepsFrom : ℕ → ℕ → (ℕ → Bool) → List ℕ → Number → Reading (List Step)
+stepsFrom l f own b (Number.Value n first) = stepsAt l f own b n first
+stepsFrom l f own b (Number.Refused c) = Reading.Refused c 2
+
+-- a step count that is refused has no steps
+pub none-from : (P : Type 0) (l f : ℕ) (own : ℕ → Bool) (b : List ℕ) (c : Cause) → isRead (stepsFrom l f own b (Number.Refused c)) ≡ true → P
+unfolding stepsFrom isRead
+none-from P l f own b c t = let z : _≡_ {A = ℕ} 0 1 = cc in absurd (omega arith)
+
+steps-from : (l f d : ℕ) (own : ℕ → Bool) (b : List ℕ) (ss : List Step) (next : ℕ) → d ≤ 7 → layoutRead l f own b d ≡ Read ss next → stepsFrom l f own b (numberAt b 2) ≡ Read ss next
+unfolding stepsFrom
+steps-from l f d own b ss next h e =
+    let v = layout-view l f own b d ss next e in
+    let one = number-short b 0 1 (v .device) (v .edition-read) (omega arith) in
+    let two = number-short b (v .device) d (v .count) (v .device-read) (omega arith) in
+    let place : 2 ≡ v .count = omega (arith, one, two) in
+    rw (place, v .count-read) (v .all-read)
+
+-- ---- an accepted check
+
+pub record Taken (d : ℕ) (r : FrameRange) (b : List ℕ) : Type 0 where
+  pub known : d ≤ 7
+  pub inside : r .first + r .count ≤ countAt d
+  pub steps : List Step
+  pub next : ℕ
+  pub was-read : layoutRead (lengthAt d) (countAt d) (owns r) b d ≡ Read steps next
+
+abbrev Accepts : ℕ → FrameRange → List ℕ → Verdict → Type 0
+Accepts d r b (Verdict.Accepted n) = Taken d r b
+Accepts d r b Verdict.UnknownDevice = Unit {0}
+Accepts d r b Verdict.WrongRange = Unit {0}
+Accepts d r b Verdict.WrongMemory = Unit {0}
+Accepts d r b (Verdict.Refused c at) = Unit {0}
+
+-- a device that has a frame count has a part
+known-device : (d f : ℕ) → figure frameCount d ≡ Figure.Value f → d ≤ 7
+unfolding partOf figureOf
+known-device d f e = go (ltb d 8) refl
+  where
+    go : (t : Bool) → ltb d 8 ≡ t → d ≤ 7
+    go true h = let z = ltb-true d 8 h in omega arith
+    go false h = let none : Figure.UnknownDevice ≡ Figure.Value f = simp h at e in let z : _≡_ {A = ℕ} 0 1 = cc in absurd (omega arith)
+
+read-accepts : (d f : ℕ) (r : FrameRange) (b : List ℕ) → figure frameCount d ≡ Figure.Value f → r .first + r .count ≤ f
+    → (x : Reading (List Step)) → layoutRead (lengthAt d) f (owns r) b d ≡ x → Accepts d r b (verdictOf (lengthAt d) x)
+unfolding verdictOf valueOf
+read-accepts d f r b e h (Reading.Read ss next) k =
+    let same : countAt d ≡ f = ap valueOf e in
+    record { known = known-device d f e; inside = rw same h; steps = ss; next = next; was-read = rw same k }
+read-accepts d f r b e h (Reading.Refused c at) k = tt
+
+check-accepts : (d : ℕ) (r : FrameRange) (b : List ℕ) (q : Figure) → figure frameCount d ≡ q → Accepts d r b (checkFor q d r b)
+unfolding checkFor
+check-accepts d r b (Figure.Value f) e =
+    either (Accepts d r b) (ltb f (r .first + r .count)) (λ _. tt) (λ inside. read-accepts d f r b e (ltb-false f _ inside) _ refl)
+check-accepts d r b Figure.UnknownDevice e = tt
+
+pub accepted : (d n : ℕ) (r : FrameRange) (b : List ℕ) → check d r b ≡ Verdict.Accepted n → Taken d r b
+accepted d n r b e = subst (Accepts d r b) e (check-accepts d r b (figure frameCount d) refl)
+
+-- ---- the reference machine on an accepted layout
+
+-- every frame of the part is in the range 0, F
+whole : (n f : ℕ) → n < f → owns (range 0 f) n ≡ true
+unfolding owns
+whole n f h = simp (lt-ltb n (0 + f) (omega arith), le-leb 0 n (omega arith))
+
+pub machine-done : (d : ℕ) (r : FrameRange) (b m : List ℕ) (ss : List Step) (next : ℕ) → layoutRead (lengthAt d) (countAt d) (owns r) b d ≡ Read ss next
+    → machine d b m ≡ allDone (lengthAt d) ss m
+unfolding madeOf
+machine-done d r b m ss next e =
+    rw (narrower (lengthAt d) (countAt d) d (owns r) (owns (range 0 (countAt d))) b ss next (λ n inside o. whole n (countAt d) inside) e)
+
+-- it does the steps that stand after the step count at offset 2
+pub machine-steps : (d : ℕ) (r : FrameRange) (b : List ℕ) → d ≤ 7 → isRead (layoutRead (lengthAt d) (countAt d) (owns r) b d) ≡ true
+    → let steps = stepsFrom (lengthAt d) (countAt d) (owns r) b (numberAt b 2) in (isRead steps ≡ true) × ((m : List ℕ) → madeOf (lengthAt d) steps m ≡ machine d b m)
+unfolding isRead madeOf
+machine-steps d r b h t = go (layoutRead (lengthAt d) (countAt d) (owns r) b d) refl t
+  where
+    go : (x : Reading (List Step)) → layoutRead (lengthAt d) (countAt d) (owns r) b d ≡ x → isRead x ≡ true
+        → let steps = stepsFrom (lengthAt d) (countAt d) (owns r) b (numberAt b 2) in (isRead steps ≡ true) × ((m : List ℕ) → madeOf (lengthAt d) steps m ≡ machine d b m)
+    go (Reading.Read ss next) e k =
+        let found = steps-from (lengthAt d) (countAt d) d (owns r) b ss next h e in
+        (rw found, λ m. rw found (sym (machine-done d r b m ss next e)))
+    go (Reading.Refused c at) e k = let z : _≡_ {A = ℕ} 0 1 = cc in absurd (omega arith)

@@ -1,0 +1,85 @@
+// The list of steps.
+use crate::copy::spread_frame;
+use crate::copy::write_frames;
+use layout::FrameRange;
+use layout::step::StepAt;
+use layout::step::read_step;
+use numbers::Number;
+use numbers::read_number;
+use parts::device::frame_length;
+use parts::device::value_of;
+ghost use mathlib.Core.Path.{_≡_};
+ghost use mathlib.Core.Bool.{true};
+ghost use Prim.Native.Nat.{_≤_};
+ghost use lib.ListN.{length};
+ghost use Rattle.parts.specs.Device.{lengthAt, countAt, memoryAt};
+ghost use Rattle.layout.specs.Range.{owns};
+ghost use Rattle.layout.specs.Reader.{stepsAt};
+ghost use Rattle.layout.specs.Layout.{layoutRead};
+ghost use Rattle.layout.specs.Machine.{madeOf, machine};
+ghost use Rattle.reference.specs.List.{isRead, nextOf, stepMade, StepRoom};
+
+// Does one step that was read. Returns the offset after it.
+fn apply_step(l: usize, layout: &[u8], step: StepAt, memory: &mut [u8]) -> usize
+    requires { ⌜ (l ≤ 213) × StepRoom l (now layout) (length (now memory)) step ⌝ }
+    ensures { λ r. ⌜ r ≡ nextOf step ⌝ }
+    ensures { λ _. ⌜ now (memory .exit) ≡ stepMade l (now (layout .entry)) step (now (memory .entry)) ⌝ }
+{
+    match step {
+        StepAt::Refused { cause: _, at: _ } => 0,
+        StepAt::FrameWrite {
+            first,
+            count,
+            body,
+            next,
+        } => {
+            write_frames(l, first, count, layout, body, memory);
+            next
+        }
+        StepAt::MultiFrameWrite {
+            count,
+            body,
+            targets,
+            next,
+        } => {
+            spread_frame(l, count, layout, body, targets, memory);
+            next
+        }
+    }
+}
+
+// Does the steps of a list that was read, from an offset on.
+fn apply_steps(
+    device: u32,
+    range: FrameRange,
+    layout: &[u8],
+    count: u32,
+    start: usize,
+    memory: &mut [u8],
+)
+    requires { ⌜ (isRead (stepsAt (lengthAt device) (countAt device) (owns range) (now layout) count start) ≡ true) × (length (now memory) ≡ memoryAt device) ⌝ }
+    ensures { λ _. ⌜ now (memory .exit) ≡ madeOf (lengthAt device) (stepsAt (lengthAt device) (countAt device) (owns range) (now (layout .entry)) count start) (now (memory .entry)) ⌝ }
+{
+    let l = value_of(frame_length(device)) as usize;
+    let mut left: u32 = count;
+    let mut at: usize = start;
+    while 0 < left {
+        let step = read_step(device, range, layout, at);
+        at = apply_step(l, layout, step, memory);
+        left -= 1;
+    }
+}
+
+// Does the steps of a layout that was accepted. Its edition and its device have one byte each.
+pub(crate) fn apply_list(device: u32, range: FrameRange, layout: &[u8], memory: &mut [u8])
+    requires { ⌜ (device ≤ 7) × (isRead (layoutRead (lengthAt device) (countAt device) (owns range) (now layout) device) ≡ true) × (length (now memory) ≡ memoryAt device) ⌝ }
+    ensures { λ _. ⌜ now (memory .exit) ≡ machine device (now (layout .entry)) (now (memory .entry)) ⌝ }
+{
+    let count = read_number(layout, 2);
+    match count {
+        Number::Refused(_) => {}
+        Number::Value { value, next } => {
+            apply_steps(device, range, layout, value, next, memory);
+        }
+    }
+}
