@@ -31,6 +31,16 @@ uint32_t sw_power_on(uint32_t device, uint8_t *record, size_t record_len, uint8_
 uint32_t sw_load(uint8_t *record, size_t record_len, uint8_t *memory, size_t memory_len,
                  const uint8_t *stream, size_t stream_len, uint64_t *taken);
 
+/* 0 and the length of the layout's stream in bytes, or the refusal number and its offset: 21 and 37, both with value 0,
+   then the layout's. The frames that the layout may name are count of them from first on. */
+uint32_t sw_check(uint32_t device, uint32_t first, uint32_t count, const uint8_t *layout, size_t layout_len,
+                  uint64_t *value);
+
+/* Answers as sw_check, then 23 with value 0 for a memory of another length than the part's. 0 does the layout's steps
+   on the memory; a refusal leaves it as it was. */
+uint32_t sw_apply(uint32_t device, uint32_t first, uint32_t count, const uint8_t *layout, size_t layout_len,
+                  uint8_t *memory, size_t memory_len, uint64_t *value);
+
 #ifdef __cplusplus
 }
 #endif

@@ -96,7 +96,7 @@ impl<'a> Plain<'a> {
     }
 
     fn write_frames(&mut self, memory: &mut [u8], data: &[u8]) -> Option<()> {
-        let length = 4 * self.part().frame_words() as usize;
+        let length = self.part().frame_bytes();
         let is_ready = self.is_known && self.is_sized;
         let is_commanded = self.registers[register::CMD as usize] == command::WCFG;
         if !is_ready || !is_commanded || !data.len().is_multiple_of(length) {

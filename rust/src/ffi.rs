@@ -1,5 +1,7 @@
 //! The proved library's C interface, as `include/seamwillow.h` declares it, behind safe wrappers.
 
+use crate::layout::Desk;
+
 extern "C" {
     fn sw_crc(crc: u32, reg: u32, word: u32) -> u32;
     fn sw_frame_address(device: u32, number: u32, address: *mut u32) -> u32;
@@ -20,12 +22,30 @@ extern "C" {
         stream_len: usize,
         taken: *mut u64,
     ) -> u32;
+    fn sw_check(
+        device: u32,
+        first: u32,
+        count: u32,
+        layout: *const u8,
+        layout_len: usize,
+        value: *mut u64,
+    ) -> u32;
+    fn sw_apply(
+        device: u32,
+        first: u32,
+        count: u32,
+        layout: *const u8,
+        layout_len: usize,
+        memory: *mut u8,
+        memory_len: usize,
+        value: *mut u64,
+    ) -> u32;
 }
 
 /// Neither a frame address nor a frame number, so an answer that was never written shows.
 const JUNK: u32 = 0xDEAD_BEEF;
-/// More bytes than any piece has.
-const JUNK_TAKEN: u64 = 0xDEAD_BEEF_DEAD_BEEF;
+/// More bytes than any piece, layout or stream has.
+const JUNK_BYTES: u64 = 0xDEAD_BEEF_DEAD_BEEF;
 
 /// The CRC register after `word` is fed for the register address `reg`.
 // Inlined, so that the benchmark times the library's call and no second one.
@@ -67,7 +87,7 @@ pub fn power_on(device: u32, record: &mut [u8], memory: &mut [u8]) -> u32 {
 
 /// Loads a piece of a stream; the code and the bytes taken.
 pub fn load(record: &mut [u8], memory: &mut [u8], stream: &[u8]) -> (u32, u64) {
-    let mut taken = JUNK_TAKEN;
+    let mut taken = JUNK_BYTES;
     // SAFETY: the function reads the stream, and writes within the two slices and to one number,
     // all ours for the call.
     let code = unsafe {
@@ -82,4 +102,41 @@ pub fn load(record: &mut [u8], memory: &mut [u8], stream: &[u8]) -> (u32, u64) {
         )
     };
     (code, taken)
+}
+
+/// Judges a layout; the code and its value.
+pub fn check(desk: Desk, layout: &[u8]) -> (u32, u64) {
+    let mut value = JUNK_BYTES;
+    // SAFETY: the function reads the layout and writes one number, both ours for the call.
+    let code = unsafe {
+        sw_check(
+            desk.device,
+            desk.first,
+            desk.count,
+            layout.as_ptr(),
+            layout.len(),
+            &mut value,
+        )
+    };
+    (code, value)
+}
+
+/// Does a layout's steps on a memory; the code and its value.
+pub fn apply(desk: Desk, layout: &[u8], memory: &mut [u8]) -> (u32, u64) {
+    let mut value = JUNK_BYTES;
+    // SAFETY: the function reads the layout, and writes within the memory and to one number,
+    // all ours for the call.
+    let code = unsafe {
+        sw_apply(
+            desk.device,
+            desk.first,
+            desk.count,
+            layout.as_ptr(),
+            layout.len(),
+            memory.as_mut_ptr(),
+            memory.len(),
+            &mut value,
+        )
+    };
+    (code, value)
 }

@@ -2,7 +2,11 @@
 
 pub mod ffi;
 pub mod guided;
+pub mod layout;
+pub mod layout_sides;
+pub mod layouts;
 pub mod loader;
+pub mod memories;
 pub mod names;
 pub mod random;
 pub mod records;

@@ -55,9 +55,13 @@ impl Part {
         45 + 19 * self.columns + 95 * self.ram_columns
     }
 
+    pub fn frame_bytes(&self) -> usize {
+        4 * self.frame_words() as usize
+    }
+
     /// The bytes of the part's frame memory.
     pub fn memory_bytes(&self) -> usize {
-        4 * self.frame_words() as usize * self.frame_count() as usize
+        self.frame_bytes() * self.frame_count() as usize
     }
 
     /// How many minors each major has, for each block.

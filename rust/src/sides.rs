@@ -57,7 +57,7 @@ impl State {
     /// The bytes of a frame.
     pub fn frame(&self, number: u32) -> &[u8] {
         let part = &PARTS[self.word(field::DEVICE) as usize];
-        let length = 4 * part.frame_words() as usize;
+        let length = part.frame_bytes();
         &self.memory[length * number as usize..][..length]
     }
 }
@@ -140,7 +140,7 @@ pub fn compare(random: &mut Random, start: &State, stream: &[u8], case: &str) ->
 }
 
 /// The first bytes in hexadecimal, enough for any generated stream.
-fn hex(bytes: &[u8]) -> String {
+pub fn hex(bytes: &[u8]) -> String {
     let shown = bytes.iter().take(8192);
     shown.map(|byte| format!("{byte:02X}")).collect()
 }

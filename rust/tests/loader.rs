@@ -5,7 +5,7 @@ use seamwillow_tests::names::{field, flag};
 use seamwillow_tests::random::{self, Random};
 use seamwillow_tests::reference::{Lookups, PARTS};
 use seamwillow_tests::sides::{assert_same, compare, End, State, INDEPENDENT, PROVED};
-use seamwillow_tests::{guided, records};
+use seamwillow_tests::{guided, memories, records};
 use std::collections::BTreeMap;
 
 const FRESH_STREAMS: u64 = 110_000;
@@ -136,15 +136,6 @@ fn arbitrary_images() {
     assert!((IMAGES / 4..IMAGES * 3 / 4).contains(&refused), "{refused}");
 }
 
-/// Lengths that are not the part's: none, one off, and other parts'.
-fn wrong_lengths(device: u32) -> Vec<usize> {
-    let length = PARTS[device as usize].memory_bytes();
-    let others = PARTS.iter().map(|part| part.memory_bytes());
-    let mut wrong: Vec<usize> = others.filter(|&other| other != length).collect();
-    wrong.extend([0, 1, length - 4, length - 1, length + 1, length + 4]);
-    wrong
-}
-
 fn compare_power_on(start: &State, device: u32) -> End {
     let expected = INDEPENDENT.power_on(start, device);
     let end = PROVED.power_on(start, device);
@@ -174,7 +165,7 @@ fn refused_power_on() {
     let mut random = Random::new(random::seed(9));
     for device in [0, 1, 7, 8, 9, 255, u32::MAX] {
         let known = device.min(7);
-        let mut lengths = wrong_lengths(known);
+        let mut lengths = memories::wrong_lengths(known);
         if device > 7 {
             lengths.push(PARTS[known as usize].memory_bytes());
         }
@@ -204,7 +195,7 @@ fn refused_loads() {
         let mut start = State::junk(&mut random, 0, 54_464);
         start.record = records::consistent(&mut random, device);
         let right = PARTS[device as usize].memory_bytes();
-        for length in wrong_lengths(device) {
+        for length in memories::wrong_lengths(device) {
             start.memory.resize(length, 0xA5);
             // Also on a stopped record: 23 comes before its number.
             let end = compare(&mut random, &start, &stream, &case);

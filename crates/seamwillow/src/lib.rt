@@ -3,8 +3,15 @@ ghost use mathlib.Core.Path.{_≡_};
 ghost use Prim.Native.Nat.{_%_};
 ghost use Rattle.crc16.specs.Register.{feed};
 ghost use Rattle.parts.specs.Address.{frameAddress, frameNumber, addressRefusal, numberRefusal};
+ghost use Rattle.answers.specs.Refusals.{verdictNumber, verdictValue};
+ghost use Rattle.layout.specs.Range.{range};
+ghost use Rattle.layout.specs.Layout.{check};
+ghost use Rattle.reference.specs.Applied.{applied};
 ghost use Rattle.seamwillow.specs.Told.{addressTold, numberTold};
 ghost use Rattle.seamwillow.specs.Records.{poweredImage, loadedImage};
+use answers::layout::verdict_number;
+use answers::layout::verdict_value;
+use layout::FrameRange;
 use parts::frame::AddressAnswer;
 use parts::frame::NumberAnswer;
 
@@ -103,4 +110,48 @@ pub extern "C" fn sw_load(
     image::encode::encode(after, state);
     *taken = loaded.taken;
     answers::answer_number(answer)
+}
+
+// Checks a layout: 01's number is returned, the stream's length or the refusal's offset written.
+#[no_mangle]
+pub extern "C" fn sw_check(
+    device: u32,
+    first: u32,
+    count: u32,
+    layout: &[u8],
+    value: &mut u64,
+) -> u32
+    ensures { λ r. ⌜ r ≡ verdictNumber (check device (range first count) (now (layout .entry))) ⌝ }
+    ensures { λ _. ⌜ now (value .exit) ≡ verdictValue (check device (range first count) (now (layout .entry))) ⌝ }
+{
+    let range = FrameRange {
+        first: first,
+        count: count,
+    };
+    let verdict = layout::check(device, range, layout);
+    *value = verdict_value(verdict);
+    verdict_number(verdict)
+}
+
+// Applies a layout to a memory, which a refusal leaves: 01's number is returned, the value written as by sw_check.
+#[no_mangle]
+pub extern "C" fn sw_apply(
+    device: u32,
+    first: u32,
+    count: u32,
+    layout: &[u8],
+    memory: &mut [u8],
+    value: &mut u64,
+) -> u32
+    ensures { λ r. ⌜ r ≡ verdictNumber (applied device (range first count) (now (layout .entry)) (now (memory .entry)) .verdict) ⌝ }
+    ensures { λ _. ⌜ now (memory .exit) ≡ applied device (range first count) (now (layout .entry)) (now (memory .entry)) .memory ⌝ }
+    ensures { λ _. ⌜ now (value .exit) ≡ verdictValue (applied device (range first count) (now (layout .entry)) (now (memory .entry)) .verdict) ⌝ }
+{
+    let range = FrameRange {
+        first: first,
+        count: count,
+    };
+    let verdict = reference::apply(device, range, layout, memory);
+    *value = verdict_value(verdict);
+    verdict_number(verdict)
 }

@@ -327,7 +327,7 @@ impl Device {
     /// Stores the frame at the current one, and tells which that was.
     fn store(&self, memory: &mut [u8]) -> Result<u32, Stop> {
         let number = self.current.ok_or(Stop::NoFrame)?;
-        let frame_bytes = 4 * self.part().frame_words() as usize;
+        let frame_bytes = self.part().frame_bytes();
         let place = memory[frame_bytes * number as usize..][..frame_bytes].chunks_exact_mut(4);
         for (bytes, word) in place.zip(self.frame) {
             bytes.copy_from_slice(&word.to_be_bytes());

@@ -1,0 +1,141 @@
+//! The layout reader: bytes into steps, or the refusal of the first thing that is wrong.
+
+use super::number;
+use super::refusal::{Cause, Field, Refusal};
+use super::{Desk, Step};
+use crate::reference::Part;
+
+const EDITION: u64 = 1;
+const MOST_STEPS: u64 = 4096;
+
+/// A number that was read; wide, so that the sum of two does not wrap.
+#[derive(Clone, Copy)]
+struct Number {
+    value: u64,
+    offset: usize,
+}
+
+impl Number {
+    fn ensure(self, is_good: bool, cause: Cause) -> Result<(), Refusal> {
+        let offset = self.offset;
+        is_good.then_some(()).ok_or(Refusal { cause, offset })
+    }
+}
+
+pub struct Reader<'a> {
+    desk: Desk,
+    part: &'static Part,
+    /// The whole layout's length.
+    length: usize,
+    /// The bytes that are still to be read.
+    rest: &'a [u8],
+}
+
+impl<'a> Reader<'a> {
+    pub fn new(desk: Desk, part: &'static Part, layout: &'a [u8]) -> Self {
+        Self {
+            desk,
+            part,
+            length: layout.len(),
+            rest: layout,
+        }
+    }
+
+    pub fn steps(mut self) -> Result<Vec<Step<'a>>, Refusal> {
+        let edition = self.number(Field::Edition)?;
+        edition.ensure(edition.value == EDITION, Cause::OtherEdition)?;
+        let device = self.number(Field::Device)?;
+        let is_desks = device.value == u64::from(self.desk.device);
+        device.ensure(is_desks, Cause::OtherDevice)?;
+        let count = self.number(Field::StepCount)?;
+        count.ensure(count.value <= MOST_STEPS, Cause::TooManySteps)?;
+        let mut steps = Vec::new();
+        for _ in 0..count.value {
+            steps.push(self.step()?);
+        }
+        if !self.rest.is_empty() {
+            return Err(Refusal {
+                cause: Cause::BytesAfterEnd,
+                offset: self.offset(),
+            });
+        }
+        Ok(steps)
+    }
+
+    fn step(&mut self) -> Result<Step<'a>, Refusal> {
+        let kind = self.number(Field::Kind)?;
+        kind.ensure(matches!(kind.value, 1 | 2), Cause::UnknownKind)?;
+        match kind.value {
+            1 => self.frame_write(),
+            _ => self.multi_frame_write(),
+        }
+    }
+
+    fn frame_write(&mut self) -> Result<Step<'a>, Refusal> {
+        let first = self.number(Field::FirstFrame)?;
+        let count = self.number(Field::FrameCount)?;
+        count.ensure(count.value > 0, Cause::NoFrames)?;
+        let end = first.value + count.value;
+        first.ensure(end <= self.part_frames(), Cause::FramesOutsidePart)?;
+        let is_owned = (first.value..end).all(|frame| self.desk.owns(frame));
+        first.ensure(is_owned, Cause::FramesOutsideRange)?;
+        let frames = self.frames(count.value, Cause::FramesMissing)?;
+        Ok(Step::FrameWrite {
+            first: first.value as usize,
+            frames,
+        })
+    }
+
+    fn multi_frame_write(&mut self) -> Result<Step<'a>, Refusal> {
+        let count = self.number(Field::TargetCount)?;
+        count.ensure(count.value > 0, Cause::NoTargets)?;
+        count.ensure(count.value <= self.part_frames(), Cause::TooManyTargets)?;
+        let frame = self.frames(1, Cause::FrameMissing)?[0];
+        let mut targets = Vec::new();
+        for _ in 0..count.value {
+            let target = self.number(Field::Target)?;
+            let number = target.value as usize;
+            let is_rising = targets.last().is_none_or(|&last| last < number);
+            target.ensure(is_rising, Cause::TargetNotRising)?;
+            let is_in_part = target.value < self.part_frames();
+            target.ensure(is_in_part, Cause::TargetOutsidePart)?;
+            let is_owned = self.desk.owns(target.value);
+            target.ensure(is_owned, Cause::TargetOutsideRange)?;
+            targets.push(number);
+        }
+        Ok(Step::MultiFrameWrite { frame, targets })
+    }
+
+    fn offset(&self) -> usize {
+        self.length - self.rest.len()
+    }
+
+    fn part_frames(&self) -> u64 {
+        u64::from(self.part.frame_count())
+    }
+
+    fn number(&mut self, field: Field) -> Result<Number, Refusal> {
+        let offset = self.offset();
+        let (value, bytes) = number::read(self.rest).map_err(|form| Refusal {
+            cause: Cause::BadNumber(field, form),
+            offset,
+        })?;
+        self.rest = &self.rest[bytes..];
+        Ok(Number {
+            value: u64::from(value),
+            offset,
+        })
+    }
+
+    /// Frames of bytes, no more of them than the part has.
+    fn frames(&mut self, count: u64, missing: Cause) -> Result<Vec<&'a [u8]>, Refusal> {
+        let frame_bytes = self.part.frame_bytes();
+        let split = self.rest.split_at_checked(frame_bytes * count as usize);
+        let (bytes, rest) = split.ok_or(Refusal {
+            cause: missing,
+            offset: self.length,
+        })?;
+        self.rest = rest;
+        Ok(bytes.chunks_exact(frame_bytes).collect())
+    }
+}

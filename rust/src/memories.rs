@@ -1,0 +1,23 @@
+//! Frame memories of right and of wrong lengths.
+
+use crate::random::Random;
+use crate::reference::PARTS;
+use crate::sides::State;
+
+fn lengths() -> impl Iterator<Item = usize> {
+    PARTS.iter().map(|part| part.memory_bytes())
+}
+
+/// Lengths that are not the part's: none, one off, and other parts'.
+pub fn wrong_lengths(device: u32) -> Vec<usize> {
+    let length = PARTS[device as usize].memory_bytes();
+    let mut wrong: Vec<usize> = lengths().filter(|&other| other != length).collect();
+    wrong.extend([0, 1, length - 4, length - 1, length + 1, length + 4]);
+    wrong
+}
+
+/// Random bytes, enough for a memory of any part and of any wrong length.
+pub fn junk(random: &mut Random) -> Vec<u8> {
+    let longest = lengths().max().expect("there are parts");
+    State::junk(random, 0, longest + 4).memory
+}
