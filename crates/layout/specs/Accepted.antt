@@ -61,7 +61,7 @@ frames-sized l (suc k) xs h =
 -- ---- what was read
 
 module _ (l f : ℕ) (own : ℕ → Bool) (b : List ℕ) where
-  pub targets-fit : (k low at : ℕ) (ts : List ℕ) (next : ℕ) → targetsAt l f own b k low at ≡ Read ts next → (length ts ≡ k) × Targets l f own low ts
+  pub targets-fit : (k low at : ℕ) (ts : List ℕ) (next : ℕ) → targetsAt f own b k low at ≡ Read ts next → (length ts ≡ k) × Targets l f own low ts
   unfolding targetsAt listed
   targets-fit zero low at ts next e = subst (λ (xs : List ℕ). (length xs ≡ 0) × Targets l f own low xs) (ap listed e) (refl, tt)
   targets-fit (suc k) low at ts next e =

@@ -56,7 +56,7 @@ joined-length l (x ∷ xs) sized = omega (arith, length-append x (flatten xs), s
 -- ---- the bytes of an accepted layout
 
 module _ (l f : ℕ) (own : ℕ → Bool) (b : List ℕ) (octets : Octets b) where
-  targets-coded : (k low at : ℕ) (ts : List ℕ) (next : ℕ) → targetsAt l f own b k low at ≡ Read ts next → drop at b ≡ flatMap code ts ++ drop next b
+  targets-coded : (k low at : ℕ) (ts : List ℕ) (next : ℕ) → targetsAt f own b k low at ≡ Read ts next → drop at b ≡ flatMap code ts ++ drop next b
   unfolding targetsAt flatMap
   targets-coded zero low at ts next e = cc
   targets-coded (suc k) low at ts next e =
@@ -141,7 +141,7 @@ module _ (b : List ℕ) where
 
 module _ (l f : ℕ) (own : ℕ → Bool) (b : List ℕ) (small : f < 4294967296) where
   targets-read : (ts : List ℕ) (low at : ℕ) (rest : List ℕ) → Targets l f own low ts → drop at b ≡ flatMap code ts ++ rest
-      → targetsAt l f own b (length ts) low at ≡ Read ts (at + length (flatMap code ts))
+      → targetsAt f own b (length ts) low at ≡ Read ts (at + length (flatMap code ts))
   unfolding targetsAt flatMap
   targets-read [] low at rest fit e = ap (Read []) (sym (add-zero at))
   targets-read (t ∷ ts) low at rest fit e =

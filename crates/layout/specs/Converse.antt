@@ -13,7 +13,7 @@ use Rattle.layout.specs.Views.{TargetView, WriteView, MultiView}
 use Rattle.layout.specs.declared.step.StepAt.the-variants as StepAt
 
 module _ (l f : ℕ) (own : ℕ → Bool) (b : List ℕ) where
-  pub target-reads : (k low at : ℕ) (ts : List ℕ) (next : ℕ) → TargetView l f own b k low at ts next → targetsAt l f own b (suc k) low at ≡ Read ts next
+  pub target-reads : (k low at : ℕ) (ts : List ℕ) (next : ℕ) → TargetView l f own b k low at ts next → targetsAt f own b (suc k) low at ≡ Read ts next
   unfolding targetsAt judgedTarget andTarget before
   target-reads k low at ts next v =
       rw (v .target-read, le-ltb _ _ (v .rising), lt-ltb _ _ (v .part), v .owned, v .rest-read, v .split)

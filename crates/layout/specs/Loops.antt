@@ -41,24 +41,24 @@ verdict-summed l (Reading.Refused c at) = refl
 module _ (l f : ℕ) (own : ℕ → Bool) (b : List ℕ) where
   -- ---- targets
 
-  targets-more : (k low at : ℕ) → 0 < k → targetsAt l f own b k low at ≡ andTarget at (judgedTarget f own low (numberAt b at)) (λ t next. targetsAt l f own b (k - 1) t next)
+  targets-more : (k low at : ℕ) → 0 < k → targetsAt f own b k low at ≡ andTarget at (judgedTarget f own low (numberAt b at)) (λ t next. targetsAt f own b (k - 1) t next)
   unfolding targetsAt
   targets-more zero low at h = absurd (omega arith)
   targets-more (suc k) low at h = simp (suc-sub-suc k 0, sub-zero)
 
   -- a step does not tell its targets
-  unlisted : (n body t : ℕ) (r : Reading (List ℕ)) → targetsRead l f own b n body (before t r) ≡ targetsRead l f own b n body r
+  unlisted : (n body t : ℕ) (r : Reading (List ℕ)) → targetsRead l n body (before t r) ≡ targetsRead l n body r
   unfolding targetsRead before
   unlisted n body t (Reading.Read ts next) = refl
   unlisted n body t (Reading.Refused c at) = refl
 
   pub target-refused : (n body k low at : ℕ) (c : Cause) → 0 < k → judgedTarget f own low (numberAt b at) ≡ Number.Refused c
-      → targetsRead l f own b n body (targetsAt l f own b k low at) ≡ StepAt.Refused c at
+      → targetsRead l n body (targetsAt f own b k low at) ≡ StepAt.Refused c at
   unfolding andTarget targetsRead
   target-refused n body k low at c h e = rw (targets-more k low at h, e)
 
   pub target-next : (n body k low at t next : ℕ) → 0 < k → judgedTarget f own low (numberAt b at) ≡ Number.Value t next
-      → targetsRead l f own b n body (targetsAt l f own b k low at) ≡ targetsRead l f own b n body (targetsAt l f own b (k - 1) (t + 1) next)
+      → targetsRead l n body (targetsAt f own b k low at) ≡ targetsRead l n body (targetsAt f own b (k - 1) (t + 1) next)
   unfolding andTarget
   target-next n body k low at t next h e = rw (targets-more k low at h, e) (unlisted n body t _)
 
@@ -71,7 +71,7 @@ module _ (l f : ℕ) (own : ℕ → Bool) (b : List ℕ) where
   steps-more (suc k) at h = simp (suc-sub-suc k 0, sub-zero)
 
   -- a step before the others changes nothing of the end
-  summed-before : (w : ℕ) (s : Step) (r : Reading (List Step)) → summed l w (ended l f own b (before s r)) ≡ summed l (w + stepWords l s) (ended l f own b r)
+  summed-before : (w : ℕ) (s : Step) (r : Reading (List Step)) → summed l w (ended b (before s r)) ≡ summed l (w + stepWords l s) (ended b r)
   unfolding before ended summed stepsWords
   summed-before w s (Reading.Read ss next) = go (ltb next (length b))
     where
@@ -81,30 +81,30 @@ module _ (l f : ℕ) (own : ℕ → Bool) (b : List ℕ) where
   summed-before w s (Reading.Refused c at) = refl
 
   pub step-refused : (w k at : ℕ) (c : Cause) (told : ℕ) → 0 < k → stepAt l f own b at ≡ StepAt.Refused c told
-      → summed l w (ended l f own b (stepsAt l f own b k at)) ≡ Verdict.Refused c told
+      → summed l w (ended b (stepsAt l f own b k at)) ≡ Verdict.Refused c told
   unfolding andStep ended summed
   step-refused w k at c told h e = rw (steps-more k at h, e)
 
   pub step-write : (w k at n count body next : ℕ) → 0 < k → stepAt l f own b at ≡ StepAt.FrameWrite n count body next
-      → summed l w (ended l f own b (stepsAt l f own b k at)) ≡ summed l (w + (7 + (count + 1) * l)) (ended l f own b (stepsAt l f own b (k - 1) next))
+      → summed l w (ended b (stepsAt l f own b k at)) ≡ summed l (w + (7 + (count + 1) * l)) (ended b (stepsAt l f own b (k - 1) next))
   unfolding andStep stepWords
   step-write w k at n count body next h e =
       rw (steps-more k at h, e) (summed-before w _ _ ∙ rw (frames-length l count (drop body b)))
 
   pub step-multi : (w k at count body targets next : ℕ) → 0 < k → stepAt l f own b at ≡ StepAt.MultiFrameWrite count body targets next
-      → summed l w (ended l f own b (stepsAt l f own b k at)) ≡ summed l (w + (7 + l + 5 * count)) (ended l f own b (stepsAt l f own b (k - 1) next))
+      → summed l w (ended b (stepsAt l f own b k at)) ≡ summed l (w + (7 + l + 5 * count)) (ended b (stepsAt l f own b (k - 1) next))
   unfolding andStep stepWords listed
   step-multi w k at count body targets next h e =
       let v = multi-view l f own b at count body targets next e in
       rw (steps-more k at h, e)
       (summed-before w _ _ ∙ rw (v .list-read, targets-fit l f own b count 0 targets (v .list) next (v .list-read) .0))
 
-  pub steps-trailing : (w k at : ℕ) → k ≤ 0 → at < length b → summed l w (ended l f own b (stepsAt l f own b k at)) ≡ Verdict.Refused Cause.Trailing at
+  pub steps-trailing : (w k at : ℕ) → k ≤ 0 → at < length b → summed l w (ended b (stepsAt l f own b k at)) ≡ Verdict.Refused Cause.Trailing at
   unfolding stepsAt ended summed
   steps-trailing w zero at z h = simp (lt-ltb at (length b) h)
   steps-trailing w (suc k) at z h = absurd (omega arith)
 
-  pub steps-accepted : (w k at : ℕ) → k ≤ 0 → length b ≤ at → summed l w (ended l f own b (stepsAt l f own b k at)) ≡ Verdict.Accepted (4 * w)
+  pub steps-accepted : (w k at : ℕ) → k ≤ 0 → length b ≤ at → summed l w (ended b (stepsAt l f own b k at)) ≡ Verdict.Accepted (4 * w)
   unfolding stepsAt ended summed stepsWords
   steps-accepted w zero at z h = simp (le-ltb at (length b) h, add-zero)
   steps-accepted w (suc k) at z h = absurd (omega arith)

@@ -21,7 +21,7 @@ module _ (l f : ℕ) (own wide : ℕ → Bool) (b : List ℕ) (more : (n : ℕ) 
       let both = and-eq-true-iff (own n) (ownsRun own k (n + 1)) .0 o in
       rw (more n (omega arith) (both .0)) (wider-run k (n + 1) (omega arith) (both .1))
 
-  wider-targets : (k low at : ℕ) (ts : List ℕ) (next : ℕ) → targetsAt l f own b k low at ≡ Read ts next → targetsAt l f wide b k low at ≡ Read ts next
+  wider-targets : (k low at : ℕ) (ts : List ℕ) (next : ℕ) → targetsAt f own b k low at ≡ Read ts next → targetsAt f wide b k low at ≡ Read ts next
   unfolding targetsAt
   wider-targets zero low at ts next e = e
   wider-targets (suc k) low at ts next e =

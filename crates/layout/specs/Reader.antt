@@ -27,12 +27,18 @@ unfoldable pub andTarget : ℕ → Number → (ℕ → ℕ → Reading (List ℕ
 andTarget at (Number.Value t next) go = before t (go (t + 1) next)
 andTarget at (Number.Refused c) go = Refused c at
 
-module _ (l f : ℕ) (own : ℕ → Bool) (b : List ℕ) where
+module _ (f : ℕ) (own : ℕ → Bool) (b : List ℕ) where
   -- k targets, the first at least low
   unfoldable pub targetsAt : ℕ → ℕ → ℕ → Reading (List ℕ)
   targetsAt zero low at = Read [] at
   targetsAt (suc k) low at = andTarget at (judgedTarget f own low (numberAt b at)) (λ t next. targetsAt k t next)
 
+-- a step of k targets whose frame of 4·l bytes lies at an offset, once its targets are read
+unfoldable pub targetsRead : ℕ → ℕ → ℕ → Reading (List ℕ) → StepAt
+targetsRead l k body (Reading.Read ts next) = StepAt.MultiFrameWrite k body (body + 4 * l) next
+targetsRead l k body (Reading.Refused c at) = StepAt.Refused c at
+
+module _ (l f : ℕ) (own : ℕ → Bool) (b : List ℕ) where
   -- kind 1, judged when its count k is read: "k = 0 (31), 34, 35, then missing bytes (31)"; n is the first frame, at its offset
   unfoldable pub judgedWrite : ℕ → ℕ → ℕ → ℕ → ℕ → StepAt
   judgedWrite n at k count body =
@@ -51,16 +57,12 @@ module _ (l f : ℕ) (own : ℕ → Bool) (b : List ℕ) where
   writeFirst at (Number.Refused c) = StepAt.Refused c at
 
   -- kind 2: "k = 0 (31), k above F (34), missing bytes; each target"
-  unfoldable pub targetsRead : ℕ → ℕ → Reading (List ℕ) → StepAt
-  targetsRead k body (Reading.Read ts next) = StepAt.MultiFrameWrite k body (body + 4 * l) next
-  targetsRead k body (Reading.Refused c at) = StepAt.Refused c at
-
   unfoldable pub judgedMulti : ℕ → ℕ → ℕ → StepAt
   judgedMulti k at body =
       cond (eqb k 0) (StepAt.Refused Cause.ZeroCount at)
       (cond (ltb f k) (StepAt.Refused Cause.OutsidePart at)
       (cond (ltb (length b) (body + 4 * l)) (StepAt.Refused Cause.Missing (length b))
-      (targetsRead k body (targetsAt k 0 (body + 4 * l)))))
+      (targetsRead l k body (targetsAt f own b k 0 (body + 4 * l)))))
 
   unfoldable pub multiCount : ℕ → Number → StepAt
   multiCount at (Number.Value k body) = judgedMulti k at body
@@ -79,7 +81,7 @@ module _ (l f : ℕ) (own : ℕ → Bool) (b : List ℕ) where
   -- a step before those that `go` reads from the next offset on
   unfoldable pub andStep : StepAt → (ℕ → Reading (List Step)) → Reading (List Step)
   andStep (StepAt.FrameWrite n k body next) go = before (FrameWrite n (frames l k (drop body b))) (go next)
-  andStep (StepAt.MultiFrameWrite k body targets next) go = before (MultiFrameWrite (take (4 * l) (drop body b)) (listed (targetsAt k 0 targets))) (go next)
+  andStep (StepAt.MultiFrameWrite k body targets next) go = before (MultiFrameWrite (take (4 * l) (drop body b)) (listed (targetsAt f own b k 0 targets))) (go next)
   andStep (StepAt.Refused c at) go = Refused c at
 
   -- n steps

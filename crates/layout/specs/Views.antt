@@ -31,31 +31,31 @@ module _ (l f : ℕ) (own : ℕ → Bool) (b : List ℕ) where
     pub rising : low ≤ target
     pub part : target < f
     pub owned : own target ≡ true
-    pub rest-read : targetsAt l f own b k (target + 1) after ≡ Read rest next
+    pub rest-read : targetsAt f own b k (target + 1) after ≡ Read rest next
 
   abbrev TargetsView : ℕ → ℕ → ℕ → Reading (List ℕ) → Type 0
   TargetsView k low at (Reading.Read ts next) = TargetView k low at ts next
   TargetsView k low at (Reading.Refused c offset) = Unit {0}
 
   before-view : (k low at t after : ℕ) → numberAt b at ≡ Number.Value t after → low ≤ t → t < f → own t ≡ true
-      → (r : Reading (List ℕ)) → targetsAt l f own b k (t + 1) after ≡ r → TargetsView k low at (before t r)
+      → (r : Reading (List ℕ)) → targetsAt f own b k (t + 1) after ≡ r → TargetsView k low at (before t r)
   unfolding before
   before-view k low at t after e rises inside o (Reading.Read ts next) r =
       record { target = t; rest = ts; after = after; split = refl; target-read = e; rising = rises; part = inside; owned = o; rest-read = r }
   before-view k low at t after e rises inside o (Reading.Refused c offset) r = tt
 
   judged-view : (k low at : ℕ) (x : Number) → numberAt b at ≡ x
-      → TargetsView k low at (andTarget at (judgedTarget f own low x) (λ t next. targetsAt l f own b k t next))
+      → TargetsView k low at (andTarget at (judgedTarget f own low x) (λ t next. targetsAt f own b k t next))
   unfolding judgedTarget andTarget
   judged-view k low at (Number.Value t after) e =
-      let P : Number → Type 0 = λ x. TargetsView k low at (andTarget at x (λ t next. targetsAt l f own b k t next)) in
+      let P : Number → Type 0 = λ x. TargetsView k low at (andTarget at x (λ t next. targetsAt f own b k t next)) in
       either P (ltb t low) (λ _. tt)
       (λ rises. either P (ltb t f)
       (λ inside. either P (own t) (λ o. before-view k low at t after e (ltb-false t low rises) (ltb-true t f inside) o _ refl) (λ _. tt))
       (λ _. tt))
   judged-view k low at (Number.Refused c) e = tt
 
-  pub target-view : (k low at : ℕ) (ts : List ℕ) (next : ℕ) → targetsAt l f own b (suc k) low at ≡ Read ts next → TargetView k low at ts next
+  pub target-view : (k low at : ℕ) (ts : List ℕ) (next : ℕ) → targetsAt f own b (suc k) low at ≡ Read ts next → TargetView k low at ts next
   unfolding targetsAt
   target-view k low at ts next e = subst (TargetsView k low at) e (judged-view k low at (numberAt b at) refl)
 
@@ -82,7 +82,7 @@ module _ (l f : ℕ) (own : ℕ → Bool) (b : List ℕ) where
     pub place : targets ≡ body + 4 * l
     pub room : targets ≤ length b
     pub list : List ℕ
-    pub list-read : targetsAt l f own b k 0 targets ≡ Read list next
+    pub list-read : targetsAt f own b k 0 targets ≡ Read list next
 
   abbrev StepView : ℕ → StepAt → Type 0
   StepView at (StepAt.FrameWrite n k body next) = WriteView at n k body next
@@ -123,7 +123,7 @@ module _ (l f : ℕ) (own : ℕ → Bool) (b : List ℕ) where
   write-first-view at first (Number.Refused c) e g = tt
 
   listed-view : (at count k body : ℕ) → numberAt b at ≡ Number.Value 2 count → numberAt b count ≡ Number.Value k body → 0 < k → k ≤ f → body + 4 * l ≤ length b
-      → (r : Reading (List ℕ)) → targetsAt l f own b k 0 (body + 4 * l) ≡ r → StepView at (targetsRead l f own b k body r)
+      → (r : Reading (List ℕ)) → targetsAt f own b k 0 (body + 4 * l) ≡ r → StepView at (targetsRead l k body r)
   unfolding targetsRead
   listed-view at count k body e g p q fits (Reading.Read ts next) r =
       record { count = count; kind-read = e; count-read = g; positive = p; part = q; place = refl; room = fits; list = ts; list-read = r }

@@ -81,7 +81,7 @@ module _ (l f : ℕ) (own : ℕ → Bool) (b : List ℕ) where
   View d (Reading.Refused c offset) = Unit {0}
 
   ended-view : (d device count number first : ℕ) → numberAt b 0 ≡ Number.Value 1 device → numberAt b device ≡ Number.Value d count → numberAt b count ≡ Number.Value number first
-      → number ≤ 4096 → (r : Reading (List Step)) → stepsAt l f own b number first ≡ r → View d (ended l f own b r)
+      → number ≤ 4096 → (r : Reading (List Step)) → stepsAt l f own b number first ≡ r → View d (ended b r)
   unfolding ended
   ended-view d device count number first e g h few (Reading.Read ss next) s =
       either (View d) (ltb next (length b)) (λ _. tt) λ all. record {

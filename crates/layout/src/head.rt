@@ -29,7 +29,7 @@ fn refused(cause: Cause, at: usize) -> Verdict
 // The list of steps, and the end.
 fn layout_steps(device: u32, range: FrameRange, layout: &[u8], count: u32, start: usize) -> Verdict
     requires { ⌜ count ≤ 4096 ⌝ }
-    ensures { λ r. ⌜ r ≡ verdictOf (lengthAt device) (ended (lengthAt device) (countAt device) (owns range) (now (layout .entry)) (stepsAt (lengthAt device) (countAt device) (owns range) (now (layout .entry)) count start)) ⌝ }
+    ensures { λ r. ⌜ r ≡ verdictOf (lengthAt device) (ended (now (layout .entry)) (stepsAt (lengthAt device) (countAt device) (owns range) (now (layout .entry)) count start)) ⌝ }
 {
     let length = value_of(frame_length(device)) as u64;
     let mut at: usize = start;

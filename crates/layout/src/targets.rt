@@ -48,7 +48,7 @@ pub(crate) fn multi_targets(
     body: usize,
 ) -> StepAt
     requires { ⌜ body + 4 * lengthAt device ≤ length (now layout) ⌝ }
-    ensures { λ r. ⌜ r ≡ targetsRead (lengthAt device) (countAt device) (owns range) (now (layout .entry)) count body (targetsAt (lengthAt device) (countAt device) (owns range) (now (layout .entry)) count 0 (body + 4 * lengthAt device)) ⌝ }
+    ensures { λ r. ⌜ r ≡ targetsRead (lengthAt device) count body (targetsAt (countAt device) (owns range) (now (layout .entry)) count 0 (body + 4 * lengthAt device)) ⌝ }
 {
     let frames = value_of(frame_count(device));
     let targets = body + 4 * value_of(frame_length(device)) as usize;

@@ -50,7 +50,7 @@ numbers-refused b k at c h e = some b k at h ∙ rw e
 
 module _ (l f : ℕ) (own : ℕ → Bool) (b : List ℕ) where
   -- they are the numbers one after the other, and in a memory of f frames or more each has room
-  pub targets-numbers : (k low at : ℕ) (ts : List ℕ) (next : ℕ) → targetsAt l f own b k low at ≡ Read ts next
+  pub targets-numbers : (k low at : ℕ) (ts : List ℕ) (next : ℕ) → targetsAt f own b k low at ≡ Read ts next
       → (numbersAt b k at ≡ ts) × ((n : ℕ) → 4 * l * f ≤ n → Roomy l n ts)
   unfolding targetsAt listed numbersAt andNumber
   targets-numbers zero low at ts next e =

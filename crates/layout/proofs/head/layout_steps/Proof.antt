@@ -23,7 +23,7 @@ Inv-loop device range layout count start length at₀ words₀ left₀ at words 
     let l = lengthAt device in
     let f = countAt device in
     (words + 414505 * left ≤ 12 + 414505 * count)
-    × (summed l words (ended l f (owns range) layout (stepsAt l f (owns range) layout left at)) ≡ verdictOf l (ended l f (owns range) layout (stepsAt l f (owns range) layout count start)))
+    × (summed l words (ended layout (stepsAt l f (owns range) layout left at)) ≡ verdictOf l (ended layout (stepsAt l f (owns range) layout count start)))
 
 abbrev μ-loop : tie.MeasureT-loop
 μ-loop device range layout count start length at₀ words₀ left₀ at words left = left

@@ -16,8 +16,8 @@ use Rattle.layout.proofs.targets.multi_targets.Tie as tie
 
 abbrev Inv-loop : tie.InvT-loop
 Inv-loop device range layout count body frames targets at₀ low₀ left₀ at low left =
-    targetsRead (lengthAt device) (countAt device) (owns range) layout count body (targetsAt (lengthAt device) (countAt device) (owns range) layout left low at)
-    ≡ targetsRead (lengthAt device) (countAt device) (owns range) layout count body (targetsAt (lengthAt device) (countAt device) (owns range) layout count 0 (body + 4 * lengthAt device))
+    targetsRead (lengthAt device) count body (targetsAt (countAt device) (owns range) layout left low at)
+    ≡ targetsRead (lengthAt device) count body (targetsAt (countAt device) (owns range) layout count 0 (body + 4 * lengthAt device))
 
 abbrev μ-loop : tie.MeasureT-loop
 μ-loop device range layout count body frames targets at₀ low₀ left₀ at low left = left
