@@ -1,0 +1,69 @@
+-- The stream that a part's configuration is changed by, for a list of steps.
+-- Source: 01, "The stream that is written".
+use Prim.Native.Nat.{ℕ, zero, suc, _+_, _-_, _*_, _^_}
+use mathlib.Core.List.{List, [], _∷_, _++_}
+use lib.ListN.{getD, drop, replicate}
+use Rattle.parts.specs.Device.{idcodeAt, lengthAt}
+use Rattle.parts.specs.Memory.{bytesOf}
+use Rattle.parts.specs.Address.{frameAddress}
+use Rattle.parts.specs.declared.frame.AddressAnswer.{AddressAnswer}
+use Rattle.parts.specs.declared.frame.AddressAnswer.the-variants as AddressAnswer
+use Rattle.registers.specs.declared.Register.the-variants as Register
+use Rattle.layout.specs.Step.{Step, FrameWrite, MultiFrameWrite}
+use Rattle.stream.specs.Packets.{Packet, packetsWords}
+
+-- k words of bytes, high byte first
+unfoldable pub wordsFrom : ℕ → List ℕ → List ℕ
+wordsFrom zero xs = []
+wordsFrom (suc k) xs = (getD xs 0 0 * 2 ^ 24 + getD xs 1 0 * 2 ^ 16 + getD xs 2 0 * 2 ^ 8 + getD xs 3 0) ∷ wordsFrom k (drop 4 xs)
+
+-- frames of l words each, one after the other
+unfoldable pub framesWords : ℕ → List (List ℕ) → List ℕ
+framesWords l [] = []
+framesWords l (x ∷ xs) = wordsFrom l x ++ framesWords l xs
+
+-- the address of a frame; every frame that a step names has one
+unfoldable pub told : AddressAnswer → ℕ
+told (AddressAnswer.Address a) = a
+told AddressAnswer.UnknownDevice = 0
+told AddressAnswer.OutsidePart = 0
+
+-- FAR: the frame's address
+abbrev pub toFrame : ℕ → ℕ → Packet
+toFrame d n = Packet.Write Register.Far (told (frameAddress d n))
+
+-- "then FAR and MFWR for each further target"
+unfoldable pub further : ℕ → List ℕ → List Packet
+further d [] = []
+further d (t ∷ ts) = toFrame d t ∷ Packet.MultiFrame ∷ further d ts
+
+-- "FAR, CMD MFWR, two zero words to MFWR, then"
+unfoldable pub spreadPackets : ℕ → List ℕ → List Packet
+spreadPackets d [] = []
+spreadPackets d (t ∷ ts) = toFrame d t ∷ Packet.Command 2 ∷ Packet.MultiFrame ∷ further d ts
+
+-- "Kind 1: CMD WCFG, FAR, FDRI as type 1 of count 0 and type 2, data, one frame of zero words, auto CRC"; "Kind 2: CMD WCFG, FDRI
+-- likewise with one frame, auto CRC," then its targets
+unfoldable pub stepPackets : ℕ → Step → List Packet
+stepPackets d (FrameWrite n fs) = Packet.Command 1 ∷ toFrame d n ∷ Packet.FrameData (framesWords (lengthAt d) fs ++ replicate (lengthAt d) 0) ∷ []
+stepPackets d (MultiFrameWrite x ts) = Packet.Command 1 ∷ Packet.FrameData (wordsFrom (lengthAt d) x) ∷ spreadPackets d ts
+
+unfoldable pub stepsPackets : ℕ → List Step → List Packet
+stepsPackets d [] = []
+stepsPackets d (s ∷ ss) = stepPackets d s ++ stepsPackets d ss
+
+-- "a CRC write; CMD DESYNC"
+abbrev pub ending : List Packet
+ending = Packet.Check ∷ Packet.Command 13 ∷ []
+
+-- "CMD RCRC, FLR, IDCODE; the steps;"
+abbrev pub framed : ℕ → List Step → List Packet
+framed d ss = Packet.Command 7 ∷ Packet.Write Register.Flr (lengthAt d - 1) ∷ Packet.Write Register.Idcode (idcodeAt d) ∷ stepsPackets d ss ++ ending
+
+-- "FFFFFFFF, sync"; RCRC comes first, so that the CRC begins at zero
+unfoldable pub wordsOf : ℕ → List Step → List ℕ
+wordsOf d ss = 0xFFFFFFFF ∷ 0xAA995566 ∷ packetsWords 0 (framed d ss)
+
+-- the words' bytes, high byte first
+abbrev pub stream : ℕ → List Step → List ℕ
+stream d ss = bytesOf (wordsOf d ss)
