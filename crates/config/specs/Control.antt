@@ -1,7 +1,6 @@
 -- The control state with one part of it replaced, and what a word can leave: the next phase and state with an event, or a stop.
 -- Source: 01, "Words and packets", first paragraph, and "Stops and refusals".
-use Prim.Native.Nat.{ℕ}
-use mathlib.Core.Bool.{Bool, true, false}
+use mathlib.Core.Bool.{Bool, true}
 use Rattle.config.specs.declared.Registers.{Registers}
 use Rattle.config.specs.declared.Flags.{Flags}
 use Rattle.config.specs.declared.Current.{Current}

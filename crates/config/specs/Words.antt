@@ -1,7 +1,7 @@
 -- A data word to each register, and a word in each phase.
 -- Sources: 001, "Spartan-3 Device Configuration Registers"; 01, "Words and packets", and stops 4, 5, 8, 9 and 10.
 use Prim.Native.Nat.{ℕ, _+_, _-_}
-use mathlib.Core.Bool.{Bool, cond}
+use mathlib.Core.Bool.{cond}
 use lib.Dec.{eqb, leb, ltb}
 use Rattle.crc16.specs.Register.{feed}
 use Rattle.parts.specs.Device.{idcodeAt, lengthAt, countAt}

@@ -2,7 +2,7 @@
 -- Sources: 01, "Layouts", the paragraphs on the form and on "Checks": "At each number: form, then value"; "The place is where the
 -- offending number starts (for kind 1, the first frame; for a zero count, that count; for missing frame bytes, the layout's length".
 use Prim.Native.Nat.{ℕ, zero, suc, _+_, _*_}
-use mathlib.Core.List.{List, [], _∷_}
+use mathlib.Core.List.{List, []}
 use mathlib.Core.Bool.{Bool, cond}
 use lib.Dec.{eqb, ltb}
 use lib.ListN.{length, take, drop}

@@ -1,10 +1,10 @@
 -- Words of an FDRI packet that only fill the frame buffer: none completes a frame or the packet.
 -- By induction on the words, four bytes at a time: each is fed, kept at the next place of the buffer, and held in FDRI.
-use mathlib.Core.Path.{_≡_, _∙_, refl, sym, ap}
+use mathlib.Core.Path.{_≡_, _∙_, refl, ap}
 use mathlib.Core.List.{List, [], _∷_}
-use mathlib.Core.Bool.{Bool, true, false, cond}
+use mathlib.Core.Bool.{true, false}
 use Prim.Native.Nat.{ℕ, zero, suc, _+_, _-_, _*_, _≤_, _<_}
-use native.Mathlib.Nat.{zero-add, add-zero, sub-zero, add-assoc}
+use native.Mathlib.Nat.{zero-add, add-zero, sub-zero}
 use native.Mathlib.Numerals.{add-one, towards-suc}
 use native.Mathlib.Omega.{arith}
 use lib.ListN.{length, getD, drop, set}
@@ -14,9 +14,9 @@ use Rattle.crc16.specs.Register.{feed}
 use Rattle.parts.specs.Device.{lengthAt}
 use Rattle.registers.specs.Addresses.{addressOf}
 use Rattle.config.specs.Registers.{fedCrc, hold}
-use Rattle.config.specs.Control.{withRegisters, withPartial, fed}
-use Rattle.config.specs.Words.{put, fdriWord, dataWord, word}
-use Rattle.config.specs.Bytes.{wordOf, gathered, byte}
+use Rattle.config.specs.Control.{withRegisters, fed}
+use Rattle.config.specs.Words.{fdriWord, dataWord, word}
+use Rattle.config.specs.Bytes.{wordOf}
 use Rattle.registers.specs.declared.Register.the-variants as Register
 use Rattle.config.specs.declared.Registers.{Registers}
 use Rattle.config.specs.declared.Bytes.the-variants as Bytes
@@ -24,7 +24,7 @@ use Rattle.config.specs.declared.Control.{Control}
 use Rattle.config.specs.declared.Phase.{Phase}
 use Rattle.config.specs.declared.Phase.the-variants as Phase
 use Rattle.loader.specs.Memory.{buffered, stored}
-use Rattle.loader.specs.Run.{Ran, ran, after, isStopped, fedByte, deviceAfter, memoryAfter, run}
+use Rattle.loader.specs.Run.{after, isStopped, fedByte, deviceAfter, memoryAfter, run}
 use Rattle.loader.specs.Pieces.{byte-run, after-after}
 use Rattle.loader.specs.Words.{takesWords, partial-empty, fedWord, word-run}
 use Rattle.config.specs.declared.Event.the-variants as Event

@@ -8,7 +8,6 @@ use Prim.Native.Nat.{ℕ, _≤_}
 use native.Mathlib.Decide.{ℕ-discrete}
 use native.Mathlib.Omega.{arith}
 use lib.ListN.{length}
-use Rattle.parts.specs.Device.{lengthAt}
 use Rattle.config.specs.Control.{withPartial, stopped}
 use Rattle.device.specs.Consistent.{consistent}
 use Rattle.device.specs.Consistency.{byte-consistent}
@@ -27,7 +26,7 @@ use Rattle.parts.specs.Device.{memoryAt}
 use Rattle.loader.specs.Load.{answerOf, load}
 use Rattle.answers.specs.declared.Answer.the-variants as Answer
 use Rattle.loader.specs.Pieces.{run-invariant, run-append, taken-le, taken-all, load-accepted, load-inconsistent, load-wrong-memory, load-cases, accepted-again, later, load-append}
-use Rattle.loader.specs.Words.{takesWords, partial-empty, fedWord, word-run}
+use Rattle.loader.specs.Words.{takesWords, partial-empty, fedWord}
 use Rattle.loader.specs.Words.{word-stops as run-stops}
 use Rattle.parts.specs.Figures.{length-fits}
 use Rattle.loader.specs.Kept.{run-device, run-keeps}

@@ -71,3 +71,9 @@ abbrev pub numberRefusal : NumberAnswer → ℕ
 numberRefusal (NumberAnswer.Number n) = 0
 numberRefusal NumberAnswer.NoFrame = 0
 numberRefusal NumberAnswer.UnknownDevice = 21
+
+-- the frame address that an answer tells, 0 where it is refused
+unfoldable pub addressTold : AddressAnswer → ℕ
+addressTold (AddressAnswer.Address a) = a
+addressTold AddressAnswer.UnknownDevice = 0
+addressTold AddressAnswer.OutsidePart = 0

@@ -1,9 +1,9 @@
 -- The eight parts and the figures that follow from R, C and B.
 -- Sources: 01, "The eight parts"; 001, Tables 7 and 8.
-use mathlib.Core.Path.{_≡_, _∙_, sym}
+use mathlib.Core.Path.{_≡_}
 use Prim.Native.Nat.{ℕ, _+_, _*_}
 use mathlib.Core.List.{List, [], _∷_}
-use mathlib.Core.Bool.{Bool, cond}
+use mathlib.Core.Bool.{cond}
 use lib.Dec.{ltb}
 use lib.ListN.{getD}
 use Rattle.parts.specs.declared.device.Part.{Part}

@@ -1,18 +1,15 @@
 -- What an accepted check tells: the device has a part, the layout was read, its step count stands at offset 2.
 -- The layout's edition and device are numbers under 128, of one byte each; a reading for the whole part gives the same steps.
-use mathlib.Core.Path.{_≡_, _∙_, refl, sym, ap, subst}
+use mathlib.Core.Path.{_≡_, refl, sym, ap, subst}
 use Prim.Native.Nat.{ℕ, _+_, _≤_, _<_}
 use mathlib.Core.List.{List}
 use mathlib.Core.Bool.{Bool, true, false}
 use native.Mathlib.Omega.{arith}
-use lib.Dec.{leb, ltb}
-use lib.ListN.{length}
+use lib.Dec.{ltb}
 use borrow.Author.Tests.{lt-ltb, le-leb, ltb-true, ltb-false}
 use Rattle.parts.specs.Device.{partOf, figureOf, figure, frameCount, valueOf, lengthAt, countAt}
 use Rattle.parts.specs.declared.device.Figure.{Figure}
 use Rattle.parts.specs.declared.device.Figure.the-variants as Figure
-use Rattle.parts.specs.declared.device.PartAnswer.{PartAnswer}
-use Rattle.parts.specs.declared.device.PartAnswer.the-variants as PartAnswer
 use Rattle.answers.specs.declared.layout.Cause.{Cause}
 use Rattle.answers.specs.declared.layout.Verdict.{Verdict}
 use Rattle.answers.specs.declared.layout.Verdict.the-variants as Verdict

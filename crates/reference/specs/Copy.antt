@@ -2,9 +2,8 @@
 -- By the first byte of what is left.
 use mathlib.Core.Path.{_≡_}
 use Prim.Native.Nat.{ℕ, suc, _+_, _-_, _≤_, _<_}
-use mathlib.Core.List.{List, []}
+use mathlib.Core.List.{List}
 use native.Mathlib.Omega.{arith}
-use native.Mathlib.Numerals.{towards-suc}
 use lib.ListN.{length, getD, take, drop, set}
 use lib.Seq.{drop-cons, sets}
 

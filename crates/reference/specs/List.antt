@@ -1,14 +1,14 @@
 -- A list of steps done one by one: the first, then the others from the offset after it.
 -- By the first step that was read; where a list was read, so were the others of it.
-use mathlib.Core.Path.{_≡_, _∙_, refl, sym, ap}
-use Prim.Native.Nat.{ℕ, zero, suc, _+_, _-_, _*_, _≤_, _<_}
+use mathlib.Core.Path.{_≡_, refl}
+use Prim.Native.Nat.{ℕ, _+_, _-_, _*_, _≤_, _<_}
 use mathlib.Core.List.{List}
 use mathlib.Core.Bool.{Bool, true, false}
 use native.Mathlib.Omega.{arith}
 use native.Mathlib.Nat.{mul-le-mul-left}
 use lib.ListN.{length, take, drop}
 use Rattle.layout.specs.Step.{Step, FrameWrite, MultiFrameWrite, Reading, Read, Refused, before, listed, frames}
-use Rattle.layout.specs.Reader.{targetsAt, stepAt, andStep, stepsAt}
+use Rattle.layout.specs.Reader.{stepAt, andStep, stepsAt}
 use Rattle.layout.specs.Machine.{written, spread, done, allDone, madeOf}
 use Rattle.layout.specs.Views.{write-view, multi-view}
 use Rattle.layout.specs.Loops.{steps-more}

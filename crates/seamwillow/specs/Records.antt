@@ -1,6 +1,6 @@
 -- What the C interface makes of a record's image: power-on and load.
 -- Source: include/seamwillow.h.
-use mathlib.Core.Path.{_≡_, _∙_, refl}
+use mathlib.Core.Path.{_≡_, _∙_}
 use mathlib.Core.Logic.{_≢_}
 use Prim.Native.Nat.{ℕ}
 use mathlib.Core.List.{List}

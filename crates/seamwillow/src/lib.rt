@@ -2,12 +2,12 @@
 ghost use mathlib.Core.Path.{_≡_};
 ghost use Prim.Native.Nat.{_%_};
 ghost use Rattle.crc16.specs.Register.{feed};
-ghost use Rattle.parts.specs.Address.{frameAddress, frameNumber, addressRefusal, numberRefusal};
+ghost use Rattle.parts.specs.Address.{frameAddress, frameNumber, addressRefusal, numberRefusal, addressTold};
 ghost use Rattle.answers.specs.Refusals.{verdictNumber, verdictValue};
 ghost use Rattle.layout.specs.Range.{range};
 ghost use Rattle.layout.specs.Layout.{check};
 ghost use Rattle.reference.specs.Applied.{applied};
-ghost use Rattle.seamwillow.specs.Told.{addressTold, numberTold};
+ghost use Rattle.seamwillow.specs.Told.{numberTold};
 ghost use Rattle.seamwillow.specs.Records.{poweredImage, loadedImage};
 use answers::layout::verdict_number;
 use answers::layout::verdict_value;

@@ -13,7 +13,7 @@ use Rattle.layout.specs.Step.{Step, FrameWrite, MultiFrameWrite}
 use Rattle.layout.specs.Layout.{stepWords, stepsWords, streamWords}
 use Rattle.layout.specs.Accepted.{Fits, AllFit}
 use Rattle.stream.specs.Packets.{Packet, crcOf, packetWords, packetsWords}
-use Rattle.stream.specs.Stream.{wordsFrom, framesWords, further, spreadPackets, stepPackets, stepsPackets, ending, framed, wordsOf, stream}
+use Rattle.stream.specs.Stream.{wordsFrom, framesWords, further, spreadPackets, stepPackets, stepsPackets, ending, streamPackets, wordsOf, stream}
 
 -- the words of a packet and of packets, whatever the CRC
 unfoldable size : Packet → ℕ
@@ -94,7 +94,7 @@ module _ (d f : ℕ) (own : ℕ → Bool) where
   -- 01: "Words: 12, plus 7 + (k+1)·L for kind 1, 7 + L + 5k for kind 2"
   pub words-count : (ss : List Step) → AllFit (lengthAt d) f own ss → length (wordsOf d ss) ≡ streamWords (lengthAt d) ss
   unfolding wordsOf sizes size
-  words-count ss fit = omega (arith, packets-size 0 (framed d ss), sizes-append (stepsPackets d ss) ending, steps-size ss fit)
+  words-count ss fit = omega (arith, packets-size 0 (streamPackets d ss), sizes-append (stepsPackets d ss) ending, steps-size ss fit)
 
   -- and so the bytes that a check tells
   pub stream-length : (ss : List Step) → AllFit (lengthAt d) f own ss → length (stream d ss) ≡ 4 * streamWords (lengthAt d) ss

@@ -5,9 +5,7 @@ use mathlib.Core.List.{List, [], _∷_, _++_}
 use lib.ListN.{getD, drop, replicate}
 use Rattle.parts.specs.Device.{idcodeAt, lengthAt}
 use Rattle.parts.specs.Memory.{bytesOf}
-use Rattle.parts.specs.Address.{frameAddress}
-use Rattle.parts.specs.declared.frame.AddressAnswer.{AddressAnswer}
-use Rattle.parts.specs.declared.frame.AddressAnswer.the-variants as AddressAnswer
+use Rattle.parts.specs.Address.{frameAddress, addressTold}
 use Rattle.registers.specs.declared.Register.the-variants as Register
 use Rattle.layout.specs.Step.{Step, FrameWrite, MultiFrameWrite}
 use Rattle.stream.specs.Packets.{Packet, packetsWords}
@@ -22,15 +20,9 @@ unfoldable pub framesWords : ℕ → List (List ℕ) → List ℕ
 framesWords l [] = []
 framesWords l (x ∷ xs) = wordsFrom l x ++ framesWords l xs
 
--- the address of a frame; every frame that a step names has one
-unfoldable pub told : AddressAnswer → ℕ
-told (AddressAnswer.Address a) = a
-told AddressAnswer.UnknownDevice = 0
-told AddressAnswer.OutsidePart = 0
-
--- FAR: the frame's address
+-- FAR: the frame's address, which every frame that a step names has
 abbrev pub toFrame : ℕ → ℕ → Packet
-toFrame d n = Packet.Write Register.Far (told (frameAddress d n))
+toFrame d n = Packet.Write Register.Far (addressTold (frameAddress d n))
 
 -- "then FAR and MFWR for each further target"
 unfoldable pub further : ℕ → List ℕ → List Packet
@@ -57,12 +49,12 @@ abbrev pub ending : List Packet
 ending = Packet.Check ∷ Packet.Command 13 ∷ []
 
 -- "CMD RCRC, FLR, IDCODE; the steps;"
-abbrev pub framed : ℕ → List Step → List Packet
-framed d ss = Packet.Command 7 ∷ Packet.Write Register.Flr (lengthAt d - 1) ∷ Packet.Write Register.Idcode (idcodeAt d) ∷ stepsPackets d ss ++ ending
+abbrev pub streamPackets : ℕ → List Step → List Packet
+streamPackets d ss = Packet.Command 7 ∷ Packet.Write Register.Flr (lengthAt d - 1) ∷ Packet.Write Register.Idcode (idcodeAt d) ∷ stepsPackets d ss ++ ending
 
 -- "FFFFFFFF, sync"; RCRC comes first, so that the CRC begins at zero
 unfoldable pub wordsOf : ℕ → List Step → List ℕ
-wordsOf d ss = 0xFFFFFFFF ∷ 0xAA995566 ∷ packetsWords 0 (framed d ss)
+wordsOf d ss = 0xFFFFFFFF ∷ 0xAA995566 ∷ packetsWords 0 (streamPackets d ss)
 
 -- the words' bytes, high byte first
 abbrev pub stream : ℕ → List Step → List ℕ

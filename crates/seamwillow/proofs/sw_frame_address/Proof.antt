@@ -2,7 +2,7 @@
 -- By computation, once the answer is known.
 use mathlib.Core.Path.{_≡_, _∙_, refl, sym}
 use borrow.Author.Needs.{needs}
-use Rattle.seamwillow.specs.Told.{addressTold}
+use Rattle.parts.specs.Address.{addressTold}
 use Rattle.seamwillow.proofs.sw_frame_address.Statement.{statement}
 use Rattle.seamwillow.proofs.sw_frame_address.Tie as tie
 

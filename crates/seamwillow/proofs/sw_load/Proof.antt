@@ -1,7 +1,6 @@
 -- `seamwillow::sw_load` meets its contract: an image that is accepted is loaded and written back, any other is refused.
 -- By the law of each of the two cases, from what the calls ensure.
 use mathlib.Core.Path.{_≡_, _∙_, refl, sym, ap}
-use mathlib.Core.Bool.{true, false}
 use borrow.Author.Tests.{not-true, not-false}
 use denote.Ref.{now}
 use Rattle.answers.specs.Numbers.{answerNumber}

@@ -1,6 +1,6 @@
 -- `seamwillow::sw_power_on` meets its contract: power-on's outcome, with the record written as its image.
 -- By the law of each of the two cases, from what the calls ensure.
-use mathlib.Core.Path.{_≡_, _∙_, refl, ap}
+use mathlib.Core.Path.{_∙_, refl, ap}
 use denote.Ref.{now}
 use Rattle.answers.specs.Numbers.{answerNumber}
 use Rattle.device.specs.declared.Device.{Device}

@@ -1,7 +1,7 @@
 -- `reference::copy::spread_frame` meets its contract. The invariant goes by what is left: the targets not yet written, read from
 -- where the code stands, make what all of them make of the memory at first.
 use mathlib.Core.Path.{_≡_, _∙_, refl, sym, subst}
-use Prim.Native.Nat.{_+_, _-_, _*_, _≤_}
+use Prim.Native.Nat.{_-_, _*_}
 use native.Mathlib.Omega.{arith}
 use lib.ListN.{length, take, drop}
 use borrow.Author.Needs.{needs}

@@ -4,7 +4,6 @@ use mathlib.Core.Path.{_≡_, _∙_, refl, sym}
 use Prim.Native.Nat.{_+_, _-_, _*_, _≤_}
 use native.Mathlib.Omega.{arith}
 use lib.ListN.{length, drop}
-use borrow.Author.Needs.{needs}
 use denote.Ref.{now}
 use Rattle.parts.specs.Placing.{frame-end}
 use Rattle.layout.specs.Step.{frames}
