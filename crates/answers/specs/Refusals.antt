@@ -21,18 +21,20 @@ causeNumber Cause.WrongDevice = 33
 causeNumber Cause.OutsidePart = 34
 causeNumber Cause.OutsideRange = 35
 
--- 01, the table: 21, 23 and 37; 0 where nothing is refused
+-- 01, the table: 21, 23, 36 and 37; 0 where nothing is refused
 unfoldable pub verdictNumber : Verdict → ℕ
 verdictNumber (Verdict.Accepted n) = 0
 verdictNumber Verdict.UnknownDevice = 21
 verdictNumber Verdict.WrongRange = 37
 verdictNumber Verdict.WrongMemory = 23
+verdictNumber (Verdict.ShortOutput n) = 36
 verdictNumber (Verdict.Refused c at) = causeNumber c
 
--- 01: "The place is where the offending number starts"; "21 and 37 tell 0"; "success answers 0 and the stream's length"
+-- 01: "The place is where the offending number starts"; "36 tells the length needed; 21 and 37 tell 0"; "success answers 0 and the stream's length"
 unfoldable pub verdictValue : Verdict → ℕ
 verdictValue (Verdict.Accepted n) = n
 verdictValue Verdict.UnknownDevice = 0
 verdictValue Verdict.WrongRange = 0
 verdictValue Verdict.WrongMemory = 0
+verdictValue (Verdict.ShortOutput n) = n
 verdictValue (Verdict.Refused c at) = at

@@ -1,4 +1,4 @@
-// Why a layout is refused, and what a check of one answers.
+// Why a layout is refused, and what a check, an application or a compilation of one answers.
 ghost use mathlib.Core.Path.{_≡_};
 ghost use Rattle.answers.specs.Refusals.{causeNumber, verdictNumber, verdictValue};
 
@@ -17,12 +17,14 @@ pub enum Cause {
     OutsideRange,
 }
 
-// Accepted: with the length of the stream in bytes. Refused: with the offset in the layout.
+// Accepted: with the length of the stream in bytes. ShortOutput: with the length that is needed. Refused: with the offset in the
+// layout.
 pub enum Verdict {
     Accepted(u64),
     UnknownDevice,
     WrongRange,
     WrongMemory,
+    ShortOutput(u64),
     Refused { cause: Cause, at: u64 },
 }
 
@@ -54,11 +56,12 @@ pub fn verdict_number(verdict: Verdict) -> u32
         Verdict::UnknownDevice => 21,
         Verdict::WrongRange => 37,
         Verdict::WrongMemory => 23,
+        Verdict::ShortOutput(_) => 36,
         Verdict::Refused { cause, at: _ } => cause_number(cause),
     }
 }
 
-// What a verdict tells beside its number: the stream's length, or the offset of what is refused.
+// What a verdict tells beside its number: the stream's length, had or needed, or the offset of what is refused.
 pub fn verdict_value(verdict: Verdict) -> u64
     ensures { λ r. ⌜ r ≡ verdictValue verdict ⌝ }
 {
@@ -67,6 +70,7 @@ pub fn verdict_value(verdict: Verdict) -> u64
         Verdict::UnknownDevice => 0,
         Verdict::WrongRange => 0,
         Verdict::WrongMemory => 0,
+        Verdict::ShortOutput(needed) => needed,
         Verdict::Refused { cause: _, at } => at,
     }
 }

@@ -1,4 +1,4 @@
--- Laws of bytes of words, of runs of stores and of comparisons.
+-- Laws of runs of stores and of comparisons.
 -- By induction on the list that is stored or compared.
 use mathlib.Core.Path.{_≡_, _∙_, refl, sym, ap}
 use mathlib.Core.List.{List, [], _∷_, _++_, append-nil}
@@ -10,7 +10,7 @@ use lib.Dec.{eqb}
 use lib.ListN.{length, getD, drop, set, length-append, drop-of-length-le}
 use lib.Seq.{sets, sets-eq, drop-cons, drop-drop}
 use Rattle.parts.specs.Memory.{bytesOf}
-use Rattle.parts.specs.Placing.{bytes-length}
+use Rattle.parts.specs.Bytes.{bytes-length, bytes-append, sets-append, sets-all}
 use Rattle.config.specs.declared.Phase.{Phase}
 use Rattle.config.specs.declared.Control.{Control}
 use Rattle.device.specs.declared.Device.{Device}
@@ -18,24 +18,7 @@ use Rattle.image.specs.Image.{headWords, imageWords, image}
 use Rattle.image.specs.Compare.{starts}
 use Rattle.image.specs.Decode.{wordAt, wordsAt}
 
--- ---- bytes of words
-
-pub bytes-append : (xs ys : List ℕ) → bytesOf (xs ++ ys) ≡ bytesOf xs ++ bytesOf ys
-unfolding bytesOf
-bytes-append [] ys = refl
-bytes-append (x ∷ xs) ys = ap (λ bs. x / 2 ^ 24 % 2 ^ 8 ∷ x / 2 ^ 16 % 2 ^ 8 ∷ x / 2 ^ 8 % 2 ^ 8 ∷ x % 2 ^ 8 ∷ bs) (bytes-append xs ys)
-
 -- ---- runs of stores
-
-pub sets-append : (l : List ℕ) (i : ℕ) (xs ys : List ℕ) → sets l i (xs ++ ys) ≡ sets (sets l i xs) (i + length xs) ys
-sets-append l i [] ys = let e : i + 0 ≡ i = omega arith in rw e
-sets-append l i (x ∷ xs) ys = let e : i + suc (length xs) ≡ suc i + length xs = omega arith in sets-append (set l i x) (suc i) xs ys ∙ rw e
-
--- as many stores from the start as the list is long leave nothing of it
-pub sets-all : (l xs : List ℕ) → length xs ≡ length l → sets l 0 xs ≡ xs
-sets-all l xs e =
-    let h : length l ≤ 0 + length xs = omega arith in
-    sets-eq xs l 0 (omega arith) ∙ ap (λ r. xs ++ r) (drop-of-length-le l h) ∙ append-nil xs
 
 -- one word of the rest is stored
 pub sets-word : (l : List ℕ) (at : ℕ) (words : List ℕ) (i : ℕ) → i < length words

@@ -9,7 +9,6 @@ use lib.Dec.{eqb}
 use borrow.Author.Tests.{eq-eqb, eqb-true}
 use lib.ListN.{length, getD, drop, drop-of-length-le, length-append}
 use lib.Seq.{drop-cons, drop-at}
-use lib.Pow.{shr-shr, shr-mod, split}
 use Rattle.registers.specs.Addresses.{isFdri}
 use Rattle.config.specs.declared.Current.{Current}
 use Rattle.config.specs.declared.Current.the-variants as Current
@@ -17,6 +16,7 @@ use Rattle.config.specs.declared.Control.{Control}
 use Rattle.config.specs.declared.Phase.{Phase}
 use Rattle.config.specs.declared.Phase.the-variants as Phase
 use Rattle.parts.specs.Memory.{bytesOf}
+use Rattle.parts.specs.Bytes.{word-bytes}
 use Rattle.device.specs.declared.Device.{Device}
 use Rattle.image.specs.Image.{wordsFilled, currentNumber, headWords, imageWords, image}
 use Rattle.image.specs.Compare.{isImage, starts, accepted}
@@ -28,15 +28,9 @@ use Rattle.image.specs.Read.{phase-of, partial-of, current-of, flags-of}
 
 -- ---- words of bytes of words
 
--- four digits of base 256, taken off one by one
-digits : (w x y z a b c : ℕ) → x * 2 ^ 8 + a ≡ w → y * 2 ^ 8 + b ≡ x → z * 2 ^ 8 + c ≡ y → z * 2 ^ 24 + c * 2 ^ 16 + b * 2 ^ 8 + a ≡ w
-digits w x y z a b c e f g = omega arith
-
 word-first : (w : ℕ) (ws : List ℕ) → w < 2 ^ 32 → wordAt (bytesOf (w ∷ ws)) 0 ≡ w
 unfolding wordAt bytesOf
-word-first w ws h =
-    digits w (w / 2 ^ 8) (w / 2 ^ 16) (w / 2 ^ 24 % 2 ^ 8) (w % 2 ^ 8) (w / 2 ^ 8 % 2 ^ 8) (w / 2 ^ 16 % 2 ^ 8) (split w 8)
-    (rw (← shr-shr w 8 8) (split (w / 2 ^ 8) 8)) (rw (shr-mod 8 24 h, ← shr-shr w 16 8) (split (w / 2 ^ 16) 8))
+word-first w ws h = word-bytes w h
 
 byte-later : (w : ℕ) (ws : List ℕ) (i j : ℕ) → i ≡ suc (suc (suc (suc j))) → getD (bytesOf (w ∷ ws)) i 0 ≡ getD (bytesOf ws) j 0
 unfolding bytesOf
@@ -53,16 +47,16 @@ word-later w ws k =
       byte-later w ws (4 * suc k + 3) (4 * k + 3) (omega arith),
     )
 
-word-bytes : (ws : List ℕ) (k : ℕ) → AreWords ws → wordAt (bytesOf ws) k ≡ getD ws k 0
+bytes-word : (ws : List ℕ) (k : ℕ) → AreWords ws → wordAt (bytesOf ws) k ≡ getD ws k 0
 unfolding wordAt bytesOf
-word-bytes [] k h = refl
-word-bytes (w ∷ ws) zero h = word-first w ws (h .0)
-word-bytes (w ∷ ws) (suc k) h = word-later w ws k ∙ word-bytes ws k (h .1)
+bytes-word [] k h = refl
+bytes-word (w ∷ ws) zero h = word-first w ws (h .0)
+bytes-word (w ∷ ws) (suc k) h = word-later w ws k ∙ bytes-word ws k (h .1)
 
 words-bytes : (ws : List ℕ) (k n : ℕ) → AreWords ws → k + n ≡ length ws → wordsAt (bytesOf ws) k n ≡ drop k ws
 unfolding wordsAt
 words-bytes ws k zero h e = let g : length ws ≤ k = omega arith in sym (drop-of-length-le ws g)
-words-bytes ws k (suc n) h e = rw (word-bytes ws k h, words-bytes ws (suc k) n h (omega arith)) (sym (drop-cons ws k 0 (omega arith)))
+words-bytes ws k (suc n) h e = rw (bytes-word ws k h, words-bytes ws (suc k) n h (omega arith)) (sym (drop-cons ws k 0 (omega arith)))
 
 -- ---- decoding an image
 
@@ -76,7 +70,7 @@ module _ (d : Device) (r : InRange d) where
 
   word-image : (k : ℕ) → wordAt (image d) k ≡ getD (imageWords d) k 0
   unfolding image
-  word-image k = word-bytes (imageWords d) k image-words
+  word-image k = bytes-word (imageWords d) k image-words
 
   frame-image : wordsAt (image d) 24 213 ≡ d .frame
   unfolding image

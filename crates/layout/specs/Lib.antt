@@ -12,3 +12,5 @@ pub mod Kept
 pub mod Coding
 pub mod Examples
 pub mod Loops
+pub mod Targets
+pub mod Accepting

@@ -8,7 +8,7 @@ use native.Mathlib.Omega.{arith}
 use lib.ListN.{length, getD, take, drop, set, drop-of-length-le}
 use lib.Seq.{length-take-le, getD-take, drop-cons, sets}
 use Rattle.parts.specs.Memory.{bytesOf}
-use Rattle.parts.specs.Placing.{bytes-length}
+use Rattle.parts.specs.Bytes.{bytes-length}
 
 -- ---- words written one by one: word i of l, its four bytes from j on, is the first of those that are left
 

@@ -8,6 +8,7 @@ pub mod RoundTrip
 pub mod Frames
 pub mod Examples
 pub mod Memory
+pub mod Bytes
 pub mod Placing
 pub mod Figures
 pub mod Cases

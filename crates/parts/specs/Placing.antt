@@ -1,20 +1,15 @@
 -- A frame that was placed reads back, every other frame keeps its bytes, and the memory keeps its length.
 -- The frame's bytes are pasted between the bytes before it and those after it; another frame lies in one of these two.
-use mathlib.Core.Path.{_≡_, _∙_, refl, sym, ap}
+use mathlib.Core.Path.{_≡_, _∙_, sym, ap}
 use mathlib.Core.Logic.{_≢_}
-use mathlib.Core.List.{List, [], _∷_, _++_, append-assoc}
+use mathlib.Core.List.{List, _++_, append-assoc}
 use Prim.Native.Nat.{ℕ, _+_, _-_, _*_, _≤_, _<_}
 use native.Mathlib.Nat.{mul-suc, mul-le-mul-left}
 use native.Mathlib.Omega.{arith}
 use native.Mathlib.Decide.{decLt}
 use lib.ListN.{length, take, drop, length-drop, take-append-drop}
 use lib.Seq.{length-take-le, sets, sets-eq, take-all, take-append-le, drop-append-le, take-at, drop-at, drop-drop, paste, length-paste, drop-paste}
-use Rattle.parts.specs.Memory.{bytesOf, frameOf, placed}
-
-pub bytes-length : (ws : List ℕ) → length (bytesOf ws) ≡ 4 * length ws
-unfolding bytesOf
-bytes-length [] = refl
-bytes-length (w ∷ ws) = omega (arith, bytes-length ws)
+use Rattle.parts.specs.Memory.{frameOf, placed}
 
 -- ---- a window of s bytes from j on
 

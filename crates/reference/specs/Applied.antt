@@ -25,6 +25,7 @@ appliedAfter (Verdict.Accepted n) d b m = cond (eqb (length m) (memoryAt d)) (ap
 appliedAfter Verdict.UnknownDevice d b m = applies Verdict.UnknownDevice m
 appliedAfter Verdict.WrongRange d b m = applies Verdict.WrongRange m
 appliedAfter Verdict.WrongMemory d b m = applies Verdict.WrongMemory m
+appliedAfter (Verdict.ShortOutput n) d b m = applies (Verdict.ShortOutput n) m
 appliedAfter (Verdict.Refused c at) d b m = applies (Verdict.Refused c at) m
 
 abbrev pub applied : ℕ → FrameRange → List ℕ → List ℕ → Applied

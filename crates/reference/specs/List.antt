@@ -14,12 +14,8 @@ use Rattle.layout.specs.Views.{write-view, multi-view}
 use Rattle.layout.specs.Loops.{steps-more}
 use Rattle.layout.specs.declared.step.StepAt.{StepAt}
 use Rattle.layout.specs.declared.step.StepAt.the-variants as StepAt
-use Rattle.reference.specs.Targets.{numbersAt, Roomy, targets-numbers}
-
--- something was read
-unfoldable pub isRead : {A : Type 0} → Reading A → Bool
-isRead (Reading.Read x next) = true
-isRead (Reading.Refused c at) = false
+use Rattle.layout.specs.Targets.{numbersAt, Roomy, targets-numbers}
+use Rattle.layout.specs.Accepting.{isRead}
 
 -- the offset after a step; after a refusal none is looked at
 unfoldable pub nextOf : StepAt → ℕ

@@ -22,7 +22,7 @@ use Rattle.layout.specs.Accepted.{accepted-fits}
 use Rattle.layout.specs.Kept.{outside-kept}
 use Rattle.layout.specs.declared.FrameRange.{FrameRange}
 use Rattle.reference.specs.Applied.{Applied, appliedAfter, applied}
-use Rattle.reference.specs.Accepting.{accepted, machine-done}
+use Rattle.layout.specs.Accepting.{accepted, machine-done}
 
 -- 01: "Other frames stay"
 pub machine-keeps : (d n k : ℕ) (r : FrameRange) (b m : List ℕ) → check d r b ≡ Verdict.Accepted n → length m ≡ memoryAt d → owns r k ≡ false
@@ -44,6 +44,7 @@ applied-keeps d k r b m out = go (check d r b) refl
     go Verdict.UnknownDevice e = refl
     go Verdict.WrongRange e = refl
     go Verdict.WrongMemory e = refl
+    go (Verdict.ShortOutput n) e = refl
     go (Verdict.Refused c at) e = refl
 
 -- 01: a refused layout "does nothing"
@@ -57,4 +58,5 @@ refused-stays d r b m = go (check d r b)
     go Verdict.UnknownDevice = λ some. refl
     go Verdict.WrongRange = λ some. refl
     go Verdict.WrongMemory = λ some. refl
+    go (Verdict.ShortOutput n) = λ some. refl
     go (Verdict.Refused c at) = λ some. refl

@@ -7,7 +7,7 @@ ghost use lib.ListN.{length, take, drop};
 ghost use Rattle.parts.specs.Memory.{placed};
 ghost use Rattle.layout.specs.Step.{frames};
 ghost use Rattle.layout.specs.Machine.{written, spread};
-ghost use Rattle.reference.specs.Targets.{numbersAt, Roomy};
+ghost use Rattle.layout.specs.Targets.{numbersAt, Roomy};
 
 // Frame n, of frames of l words, becomes the bytes of the layout from an offset on.
 pub(crate) fn copy_frame(l: usize, n: usize, layout: &[u8], body: usize, memory: &mut [u8])

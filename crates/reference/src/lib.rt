@@ -26,6 +26,7 @@ pub fn apply(device: u32, range: FrameRange, layout: &[u8], memory: &mut [u8]) -
         Verdict::UnknownDevice => verdict,
         Verdict::WrongRange => verdict,
         Verdict::WrongMemory => verdict,
+        Verdict::ShortOutput(_) => verdict,
         Verdict::Refused { cause: _, at: _ } => verdict,
     }
 }

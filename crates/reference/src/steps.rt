@@ -17,7 +17,8 @@ ghost use Rattle.layout.specs.Range.{owns};
 ghost use Rattle.layout.specs.Reader.{stepsAt};
 ghost use Rattle.layout.specs.Layout.{layoutRead};
 ghost use Rattle.layout.specs.Machine.{madeOf, machine};
-ghost use Rattle.reference.specs.List.{isRead, nextOf, stepMade, StepRoom};
+ghost use Rattle.layout.specs.Accepting.{isRead};
+ghost use Rattle.reference.specs.List.{nextOf, stepMade, StepRoom};
 
 // Does one step that was read. Returns the offset after it.
 fn apply_step(l: usize, layout: &[u8], step: StepAt, memory: &mut [u8]) -> usize

@@ -8,7 +8,7 @@ use native.Mathlib.Omega.{arith}
 use native.Mathlib.Nat.{suc-mul}
 use lib.ListN.{length, drop, length-append, length-replicate}
 use Rattle.parts.specs.Device.{lengthAt}
-use Rattle.parts.specs.Placing.{bytes-length}
+use Rattle.parts.specs.Bytes.{bytes-length}
 use Rattle.layout.specs.Step.{Step, FrameWrite, MultiFrameWrite}
 use Rattle.layout.specs.Layout.{stepWords, stepsWords, streamWords}
 use Rattle.layout.specs.Accepted.{Fits, AllFit}
@@ -16,18 +16,18 @@ use Rattle.stream.specs.Packets.{Packet, crcOf, packetWords, packetsWord
 use Rattle.stream.specs.Stream.{wordsFrom, framesWords, further, spreadPackets, stepPackets, stepsPackets, ending, streamPackets, wordsOf, stream}
 
 -- the words of a packet and of packets, whatever the CRC
-unfoldable size : Packet → ℕ
+unfoldable pub size : Packet → ℕ
 size (Packet.Write r w) = 2
 size (Packet.Command k) = 2
 size Packet.Check = 2
 size (Packet.FrameData ws) = 3 + length ws
 size Packet.MultiFrame = 3
 
-unfoldable sizes : List Packet → ℕ
+unfoldable pub sizes : List Packet → ℕ
 sizes [] = 0
 sizes (p ∷ ps) = size p + sizes ps
 
-packet-size : (crc : ℕ) (p : Packet) → length (packetWords crc p) ≡ size p
+pub packet-size : (crc : ℕ) (p : Packet) → length (packetWords crc p) ≡ size p
 unfolding packetWords size
 packet-size crc (Packet.Write r w) = refl
 packet-size crc (Packet.Command k) = refl
@@ -35,36 +35,36 @@ packet-size crc Packet.Check = refl
 packet-size crc (Packet.FrameData ws) = simp length-append (omega arith)
 packet-size crc Packet.MultiFrame = refl
 
-packets-size : (crc : ℕ) (ps : List Packet) → length (packetsWords crc ps) ≡ sizes ps
+pub packets-size : (crc : ℕ) (ps : List Packet) → length (packetsWords crc ps) ≡ sizes ps
 unfolding packetsWords sizes
 packets-size crc [] = refl
 packets-size crc (p ∷ ps) = simp length-append (omega (arith, packet-size crc p, packets-size (crcOf crc p) ps))
 
-sizes-append : (ps qs : List Packet) → sizes (ps ++ qs) ≡ sizes ps + sizes qs
+pub sizes-append : (ps qs : List Packet) → sizes (ps ++ qs) ≡ sizes ps + sizes qs
 unfolding sizes
 sizes-append [] qs = omega arith
 sizes-append (p ∷ ps) qs = omega (arith, sizes-append ps qs)
 
 -- ---- frames
 
-words-length : (k : ℕ) (xs : List ℕ) → length (wordsFrom k xs) ≡ k
+pub words-length : (k : ℕ) (xs : List ℕ) → length (wordsFrom k xs) ≡ k
 unfolding wordsFrom
 words-length zero xs = refl
 words-length (suc k) xs = omega (arith, words-length k (drop 4 xs))
 
-frames-words : (l : ℕ) (fs : List (List ℕ)) → length (framesWords l fs) ≡ length fs * l
+pub frames-words : (l : ℕ) (fs : List (List ℕ)) → length (framesWords l fs) ≡ length fs * l
 unfolding framesWords
 frames-words l [] = omega arith
 frames-words l (x ∷ xs) = simp length-append (omega (arith, words-length l x, frames-words l xs, suc-mul (length xs) l))
 
 -- ---- steps
 
-further-size : (d : ℕ) (ts : List ℕ) → sizes (further d ts) ≡ 5 * length ts
+pub further-size : (d : ℕ) (ts : List ℕ) → sizes (further d ts) ≡ 5 * length ts
 unfolding further sizes size
 further-size d [] = refl
 further-size d (t ∷ ts) = omega (arith, further-size d ts)
 
-spread-size : (d : ℕ) (ts : List ℕ) → 0 < length ts → sizes (spreadPackets d ts) ≡ 2 + 5 * length ts
+pub spread-size : (d : ℕ) (ts : List ℕ) → 0 < length ts → sizes (spreadPackets d ts) ≡ 2 + 5 * length ts
 unfolding spreadPackets sizes size
 spread-size d [] h = absurd (omega arith)
 spread-size d (t ∷ ts) h = omega (arith, further-size d ts)
@@ -74,7 +74,7 @@ abbrev Aimed : Step → Type 0
 Aimed (FrameWrite n fs) = Unit {0}
 Aimed (MultiFrameWrite x ts) = 0 < length ts
 
-step-size : (d : ℕ) (s : Step) → Aimed s → sizes (stepPackets d s) ≡ stepWords (lengthAt d) s
+pub step-size : (d : ℕ) (s : Step) → Aimed s → sizes (stepPackets d s) ≡ stepWords (lengthAt d) s
 unfolding stepPackets stepWords sizes size
 step-size d (FrameWrite n fs) h = simp (length-append, length-replicate) (omega (arith, frames-words (lengthAt d) fs, suc-mul (length fs) (lengthAt d)))
 step-size d (MultiFrameWrite x ts) h = omega (arith, words-length (lengthAt d) x, spread-size d ts h)

@@ -6,8 +6,7 @@ use borrow.Author.Tests.{eq-eqb, ne-eqb}
 use denote.Ref.{now}
 use Rattle.parts.specs.Device.{memoryAt}
 use Rattle.reference.specs.Applied.{appliedAfter}
-use Rattle.reference.specs.List.{isRead}
-use Rattle.reference.specs.Accepting.{accepted}
+use Rattle.layout.specs.Accepting.{isRead, accepted}
 use Rattle.reference.proofs.apply.Statement.{statement}
 use Rattle.reference.proofs.apply.Tie as tie
 
@@ -55,6 +54,9 @@ enum-told-4 c = search needs
 enum-told-5 : tie.Need-enum-told-5
 enum-told-5 c = search needs
 
+enum-told-6 : tie.Need-enum-told-6
+enum-told-6 c = search needs
+
 same-length : tie.Need-same-length
 same-length c = search needs
 
@@ -81,6 +83,10 @@ returns-6 : tie.Need-returns-6
 unfolding appliedAfter
 returns-6 c = let e = c .enum-told5 .given .1 in rw (sym (c .before .before .check .ensures) ∙ e) (e, refl)
 
+returns-7 : tie.Need-returns-7
+unfolding appliedAfter
+returns-7 c = let e = c .enum-told6 .given .1 in rw (sym (c .before .before .check .ensures) ∙ e) (e, refl)
+
 pub apply-spec : {M : Type 1} → statement M
 apply-spec =
     tie.close
@@ -96,9 +102,11 @@ apply-spec =
     enum-told-3
     enum-told-4
     enum-told-5
+    enum-told-6
     same-length
     returns-2
     returns-3
     returns-4
     returns-5
-    returns-6)
+    returns-6
+    returns-7)

@@ -17,6 +17,9 @@ enum-told-3 c = search needs
 enum-told-4 : tie.Need-enum-told-4
 enum-told-4 c = search needs
 
+enum-told-5 : tie.Need-enum-told-5
+enum-told-5 c = search needs
+
 enum-known-verdict : tie.Need-enum-known-verdict
 enum-known-verdict c = search needs
 
@@ -41,7 +44,11 @@ returns-4 c = rw (c .enum-told4 .given .1)
 
 returns-5 : tie.Need-returns-5
 unfolding verdictNumber
-returns-5 c = rw (c .before .before .verdict .given .1) (c .cause-number .ensures)
+returns-5 c = simp (c .enum-told5 .given .1)
+
+returns-6 : tie.Need-returns-6
+unfolding verdictNumber
+returns-6 c = rw (c .before .before .verdict .given .1) (c .cause-number .ensures)
 
 pub verdict-number-spec : {M : Type 1} → statement M
 verdict-number-spec =
@@ -51,10 +58,12 @@ verdict-number-spec =
     enum-told-2
     enum-told-3
     enum-told-4
+    enum-told-5
     enum-known-verdict
     cause-number-requires
     returns
     returns-2
     returns-3
     returns-4
-    returns-5)
+    returns-5
+    returns-6)

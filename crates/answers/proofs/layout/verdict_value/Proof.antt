@@ -20,6 +20,9 @@ enum-told-3 c = search needs
 enum-known-verdict-2 : tie.Need-enum-known-verdict-2
 enum-known-verdict-2 c = search needs
 
+enum-known-verdict-3 : tie.Need-enum-known-verdict-3
+enum-known-verdict-3 c = search needs
+
 returns : tie.Need-returns
 unfolding verdictValue
 returns c = simp (c .before .verdict .given .1)
@@ -40,6 +43,10 @@ returns-5 : tie.Need-returns-5
 unfolding verdictValue
 returns-5 c = simp (c .before .verdict2 .given .1)
 
+returns-6 : tie.Need-returns-6
+unfolding verdictValue
+returns-6 c = simp (c .before .verdict3 .given .1)
+
 pub verdict-value-spec : {M : Type 1} → statement M
 verdict-value-spec =
     tie.close
@@ -49,8 +56,10 @@ verdict-value-spec =
     enum-told-2
     enum-told-3
     enum-known-verdict-2
+    enum-known-verdict-3
     returns
     returns-2
     returns-3
     returns-4
-    returns-5)
+    returns-5
+    returns-6)

@@ -5,7 +5,8 @@ use Prim.Native.Nat.{ℕ, _+_, _-_, _≤_}
 use denote.Ref.{now}
 use lib.ListN.{length, replicate, length-set}
 use lib.Seq.{sets}
-use Rattle.image.specs.Laws.{sets-all, sets-read, read-done, words-length}
+use Rattle.parts.specs.Bytes.{sets-all}
+use Rattle.image.specs.Laws.{sets-read, read-done, words-length}
 use Rattle.image.specs.Decode.{wordsAt}
 use native.Mathlib.Omega.{arith}
 use Rattle.image.proofs.decode.frame_of.Statement.{statement}

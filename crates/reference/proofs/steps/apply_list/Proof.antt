@@ -7,8 +7,7 @@ use denote.Ref.{now}
 use Rattle.parts.specs.Device.{lengthAt, countAt}
 use Rattle.layout.specs.Range.{owns}
 use Rattle.layout.specs.Machine.{madeOf, machine}
-use Rattle.reference.specs.List.{isRead}
-use Rattle.reference.specs.Accepting.{stepsFrom, none-from, machine-steps}
+use Rattle.layout.specs.Accepting.{isRead, stepsFrom, none-from, machine-steps}
 use Rattle.reference.proofs.steps.apply_list.Statement.{statement}
 use Rattle.reference.proofs.steps.apply_list.Tie as tie
 

@@ -12,7 +12,8 @@ use Rattle.parts.specs.Figures.{length-fits, memory-size}
 use Rattle.layout.specs.Range.{owns}
 use Rattle.layout.specs.Reader.{stepsAt}
 use Rattle.layout.specs.Machine.{madeOf}
-use Rattle.reference.specs.List.{isRead, none-done, step-made, step-roomy}
+use Rattle.layout.specs.Accepting.{isRead}
+use Rattle.reference.specs.List.{none-done, step-made, step-roomy}
 use Rattle.reference.proofs.steps.apply_steps.Statement.{statement}
 use Rattle.reference.proofs.steps.apply_steps.Tie as tie
 

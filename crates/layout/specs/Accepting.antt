@@ -18,15 +18,19 @@ use Rattle.numbers.specs.Code.{number-short}
 use Rattle.numbers.specs.declared.Number.{Number}
 use Rattle.numbers.specs.declared.Number.the-variants as Number
 use Rattle.parts.specs.Cases.{either}
 use Rattle.layout.specs.Range.{range, owns}
 use Rattle.layout.specs.Step.{Step, Reading, Read}
 use Rattle.layout.specs.Reader.{stepsAt}
 use Rattle.layout.specs.Layout.{layoutRead, verdictOf, checkFor, check}
 use Rattle.layout.specs.Machine.{allDone, madeOf, machine}
 use Rattle.layout.specs.Whole.{layout-view}
 use Rattle.layout.specs.Narrow.{narrower}
 use Rattle.layout.specs.declared.FrameRange.{FrameRange}
-use Rattle.reference.specs.List.{isRead}
+
+-- something was read
+unfoldable pub isRead : {A : Type 0} → Reading A → Bool
+isRead (Reading.Read x next) = true
+isRead (Reading.Refused c at) = false
 
 -- the steps after a step count that was read
 unfoldable pub stepsFrom : ℕ → ℕ → (ℕ → Bool) → List ℕ → Number → Reading (List Step)
@@ -61,6 +65,7 @@ Accepts d r b (Verdict.Accepted n) = Taken d r b
 Accepts d r b Verdict.UnknownDevice = Unit {0}
 Accepts d r b Verdict.WrongRange = Unit {0}
 Accepts d r b Verdict.WrongMemory = Unit {0}
+Accepts d r b (Verdict.ShortOutput n) = Unit {0}
 Accepts d r b (Verdict.Refused c at) = Unit {0}
 
 -- a device that has a frame count has a part
