@@ -4,3 +4,4 @@ pub mod Bounds
 pub mod Linear
 pub mod CheckWord
 pub mod Nibbles
+pub mod Lookup

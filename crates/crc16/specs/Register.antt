@@ -1,5 +1,6 @@
 -- The CRC register: sixteen bits that shift once for each bit that comes in, as 001 draws it in Figure 1.
 -- Sources: 001, "Cyclic Redundancy Check Register"; 01, "CRC". docs/READINGS.md has what 001 garbles there.
+use mathlib.Core.List.{List, [], _∷_}
 use Prim.Native.Nat.{ℕ, zero, suc, _+_, _*_, _/_, _%_, _^_}
 
 -- bit i of a number
@@ -23,6 +24,11 @@ shiftIn (suc k) c w = shiftIn k (shift c (w % 2)) (w / 2)
 -- 01, "CRC": a data word for a register, then the five bits of that register's address
 unfoldable pub feed : ℕ → ℕ → ℕ → ℕ
 feed c address word = shiftIn 5 (shiftIn 32 c word) address
+
+-- words fed one after the other for a register
+unfoldable pub fedWords : ℕ → ℕ → List ℕ → ℕ
+fedWords crc a [] = crc
+fedWords crc a (w ∷ ws) = fedWords (feed crc a w) a ws
 
 -- the first k bits that leave the register, bit 15 as bit 0
 unfoldable pub leaving : ℕ → ℕ → ℕ

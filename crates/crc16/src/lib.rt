@@ -1,18 +1,17 @@
 // The CRC register of the configuration logic: feed a data word, and the word that passes the check.
 ghost use mathlib.Core.Path.{_≡_};
-ghost use Prim.Native.Nat.{_<_, _%_};
+ghost use Prim.Native.Nat.{_<_};
 ghost use Rattle.crc16.specs.Register.{feed, checkWord};
-ghost use Rattle.crc16.specs.Nibbles.{part, entries};
+ghost use Rattle.crc16.specs.Nibbles.{entries, lookedUp, feedWith};
 
-mod table; // table.rt: what each nibble adds
+mod nibbles; // nibbles.rt: what each nibble adds
 
-use table::TABLE;
+use nibbles::TABLE;
 
-// What the low half-word of x adds: group 0 as the register, 1 and 2 as the word's low and high half, 3 as the address.
+// What the low half-word of x picks from the table: group 0 as the register, 1 and 2 as the word's low and high half, 3 as the address.
 fn part(table: &[u16; 256], group: usize, x: u32) -> u16
     requires { ⌜ group < 4 ⌝ }
-    requires { ⌜ now table ≡ entries 256 0 ⌝ }
-    ensures { λ r. ⌜ r ≡ part group (x % 65536) ⌝ }
+    ensures { λ r. ⌜ r ≡ lookedUp (now (table .entry)) group x ⌝ }
 {
     let n = x as usize;
     let row = 64 * group;
@@ -23,17 +22,31 @@ fn part(table: &[u16; 256], group: usize, x: u32) -> u16
     d ^ (c ^ (b ^ a))
 }
 
+// `feed` with the table lent: a constant is copied wherever it is named, so a loop over words takes one copy before it.
+pub fn feed_with(table: &[u16; 256], crc: u32, address: u32, word: u32) -> u32
+    ensures { λ r. ⌜ r ≡ feedWith (now (table .entry)) crc address word ⌝ }
+{
+    let register = part(table, 0, crc);
+    let low = part(table, 1, word);
+    let high = part(table, 2, word / 65536);
+    let to = part(table, 3, address);
+    (register ^ (to ^ (high ^ low))) as u32
+}
+
+// The table with which `feed_with` feeds as `feed` does.
+pub fn table() -> [u16; 256]
+    ensures { λ r. ⌜ r ≡ entries 256 0 ⌝ }
+{
+    TABLE
+}
+
 // The register after a data word for a register address (its low five bits); only the low sixteen bits of crc count.
 pub fn feed(crc: u32, address: u32, word: u32) -> u32
     ensures { λ r. ⌜ r ≡ feed crc address word ⌝ }
 {
-    // a constant is copied wherever it is named: one copy serves the four groups
+    // a copy of the constant: one that `table` returns makes a call a tenth slower
     let table = TABLE;
-    let register = part(&table, 0, crc);
-    let low = part(&table, 1, word);
-    let high = part(&table, 2, word / 65536);
-    let to = part(&table, 3, address);
-    (register ^ (to ^ (high ^ low))) as u32
+    feed_with(&table, crc, address, word)
 }
 
 // The word that passes the check: the register's bits in the order in which they leave it, bit 15 first.

@@ -10,7 +10,7 @@ use native.Mathlib.Omega.{arith}
 use lib.ListN.{length, getD, drop, set}
 use lib.Seq.{drop-cons}
 use borrow.Author.Tests.{lt-ltb, lt-leb}
-use Rattle.crc16.specs.Register.{feed}
+use Rattle.crc16.specs.Register.{fedWords}
 use Rattle.parts.specs.Device.{lengthAt}
 use Rattle.registers.specs.Addresses.{addressOf}
 use Rattle.config.specs.Registers.{fedCrc, hold}
@@ -41,11 +41,6 @@ unfoldable pub wordsAt : ℕ → List ℕ → ℕ → List ℕ
 wordsAt zero s i = []
 wordsAt (suc n) s i = wordAt s i ∷ wordsAt n s (i + 4)
 
--- the CRC after words for FDRI
-unfoldable pub fedAll : List ℕ → ℕ → ℕ
-fedAll [] v = v
-fedAll (w ∷ ws) v = fedAll ws (feed v 2 w)
-
 -- the last of the words
 unfoldable pub lastOf : List ℕ → ℕ → ℕ
 lastOf [] v = v
@@ -57,7 +52,7 @@ keptAll [] at f = f
 keptAll (w ∷ ws) at f = keptAll ws (at + 1) (set f at w)
 
 abbrev pub filledRegisters : List ℕ → Registers → Registers
-filledRegisters ws r = record { crc = fedAll ws (r .crc); far = r .far; fdri = lastOf ws (r .fdri); cmd = r .cmd; ctl = r .ctl; mask = r .mask; lout = r .lout; cor = r .cor; mfwr = r .mfwr; flr = r .flr; idcode = r .idcode }
+filledRegisters ws r = record { crc = fedWords (r .crc) 2 ws; far = r .far; fdri = lastOf ws (r .fdri); cmd = r .cmd; ctl = r .ctl; mask = r .mask; lout = r .lout; cor = r .cor; mfwr = r .mfwr; flr = r .flr; idcode = r .idcode }
 
 abbrev pub filledControl : List ℕ → Control → Control
 filledControl ws c = withRegisters (filledRegisters ws (c .registers)) c
@@ -84,11 +79,11 @@ run-word d m s i t e h = rw (four s i h) (word-run d t m (getD s i 0) (getD s (i
 
 fills : (left filled : ℕ) (c : Control) (w : ℕ) → 1 < left → filled + 1 < lengthAt (c .device)
     → word (Phase.Data Register.Fdri left filled) c w ≡ fed (Phase.Data Register.Fdri (left - 1) (filled + 1)) (filledControl (w ∷ []) c) (Event.Keep filled w)
-unfolding word dataWord fdriWord hold fedCrc addressOf fedAll lastOf
+unfolding word dataWord fdriWord hold fedCrc addressOf fedWords lastOf
 fills left filled c w hl hf = simp (lt-leb left 1 hl, lt-ltb (filled + 1) (lengthAt (c .device)) hf)
 
 filled-on : (w : ℕ) (ws : List ℕ) (c : Control) → filledControl ws (filledControl (w ∷ []) c) ≡ filledControl (w ∷ ws) c
-unfolding fedAll lastOf
+unfolding fedWords lastOf
 filled-on w ws c = refl
 
 -- n words that only fill the buffer
@@ -96,7 +91,7 @@ pub run-filling : (n left filled : ℕ) (c : Control) (f m s : List ℕ) (i : �
     → n < left → filled + n < lengthAt (c .device) → c .partial ≡ Bytes.Zero → i + 4 * n ≤ length s
     → run (device (Phase.Data Register.Fdri left filled) c f) m (drop i s)
     ≡ after (4 * n) (run (device (Phase.Data Register.Fdri (left - n) (filled + n)) (filledControl (wordsAt n s i) c) (keptAll (wordsAt n s i) filled f)) m (drop (i + 4 * n) s))
-unfolding wordsAt keptAll fedAll lastOf takesWords buffered stored
+unfolding wordsAt keptAll fedWords lastOf takesWords buffered stored
 run-filling zero left filled c f m s i hl hf hp hs = simp (sub-zero, add-zero, zero-add)
 run-filling (suc n) left filled c f m s i hl hf hp hs =
     let w = wordAt s i in

@@ -2,7 +2,8 @@
 ghost use mathlib.Core.Path.{_≡_};
 ghost use Prim.Native.Nat.{_+_, _*_, _≤_};
 ghost use lib.ListN.{length};
-ghost use Rattle.loader.specs.Fill.{wordAt, wordsAt, fedAll, lastOf, keptAll};
+ghost use Rattle.crc16.specs.Register.{fedWords};
+ghost use Rattle.loader.specs.Fill.{wordAt, wordsAt, lastOf, keptAll};
 
 // The CRC after the words, and the last of them.
 pub struct Filled {
@@ -39,16 +40,18 @@ pub(crate) fn fill(
     n: usize,
 ) -> Filled
     requires { ⌜ (at + n ≤ 213) × (from + 4 * n ≤ length (now bytes)) ⌝ }
-    ensures { λ r. ⌜ r .crc ≡ fedAll (wordsAt n (now (bytes .entry)) from) crc ⌝ }
+    ensures { λ r. ⌜ r .crc ≡ fedWords crc 2 (wordsAt n (now (bytes .entry)) from) ⌝ }
     ensures { λ r. ⌜ r .last ≡ lastOf (wordsAt n (now (bytes .entry)) from) last ⌝ }
     ensures { λ _. ⌜ now (frame .exit) ≡ keptAll (wordsAt n (now (bytes .entry)) from) at (now (frame .entry)) ⌝ }
 {
+    // one copy of the table serves all words
+    let table = crc16::table();
     let mut register = crc;
     let mut word = last;
     let mut k: usize = 0;
     while k < n {
         word = word_at(bytes, from + 4 * k);
-        register = crc16::feed(register, 2, word);
+        register = crc16::feed_with(&table, register, 2, word);
         frame[at + k] = word;
         k += 1;
     }

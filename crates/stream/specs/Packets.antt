@@ -5,7 +5,7 @@ use mathlib.Core.List.{List, [], _∷_, _++_}
 use mathlib.Core.Bool.{cond}
 use lib.Dec.{eqb}
 use lib.ListN.{length}
-use Rattle.crc16.specs.Register.{feed, checkWord}
+use Rattle.crc16.specs.Register.{feed, fedWords, checkWord}
 use Rattle.registers.specs.Addresses.{addressOf}
 use Rattle.registers.specs.declared.Register.{Register}
 use Rattle.registers.specs.declared.Register.the-variants as Register
@@ -25,11 +25,6 @@ pub data Packet : Type 0 where
   Check : Packet
   FrameData : List ℕ → Packet
   MultiFrame : Packet
-
--- words fed one after the other for a register
-unfoldable pub fedWords : ℕ → ℕ → List ℕ → ℕ
-fedWords crc a [] = crc
-fedWords crc a (w ∷ ws) = fedWords (feed crc a w) a ws
 
 -- the CRC after a packet: "RCRC makes the CRC zero", after its word is fed; after a check word, which passes, it is zero too
 unfoldable pub crcOf : ℕ → Packet → ℕ

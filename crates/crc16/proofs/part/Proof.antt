@@ -1,7 +1,8 @@
 -- `crc16::part` meets its contract: it xors the table's entries at the four nibbles of a half-word.
--- Assumes nothing.
+-- By computation, once the definition is unfolded; every index is under 256, since the group is under 4.
+use mathlib.Core.Path.{refl}
 use borrow.Author.Needs.{needs}
-use Rattle.crc16.proofs.Nibbles.{half-word}
+use Rattle.crc16.specs.Nibbles.{lookedUp}
 use Rattle.crc16.proofs.part.Statement.{statement}
 use Rattle.crc16.proofs.part.Tie as tie
 
@@ -54,9 +55,8 @@ element-copy-out-d : tie.Need-element-copy-out-d
 element-copy-out-d c = search needs
 
 returns : tie.Need-returns
-returns c =
-    let at = c .before .before .before .before in
-    half-word (at .args .table .now) (at .args .group) (at .pre .1) (at .pre .0) (at .args .x)
+unfolding lookedUp
+returns c = refl
 
 pub part-spec : {M : Type 1} → statement M
 part-spec =

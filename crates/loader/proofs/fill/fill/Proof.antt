@@ -1,5 +1,5 @@
 -- `loader::fill::fill` meets its contract. The invariant goes by what is left: the words not yet passed, fed and kept from here on,
--- give what all of them give. A turn is the first of the words that are left.
+-- give what all of them give. A turn is the first of the words that are left, fed through the table: a law says that this is `feed`.
 use mathlib.Core.Path.{_≡_}
 use mathlib.Core.List.{List, _∷_}
 use Prim.Native.Nat.{ℕ, suc, _+_, _-_, _*_, _≤_, _<_}
@@ -7,19 +7,21 @@ use native.Mathlib.Nat.{sub-zero, add-zero, add-assoc}
 use native.Mathlib.Omega.{arith}
 use borrow.Author.Needs.{needs}
 use denote.Ref.{now}
-use Rattle.loader.specs.Fill.{wordAt, wordsAt, fedAll, lastOf, keptAll}
+use Rattle.crc16.specs.Register.{fedWords}
+use Rattle.crc16.specs.Lookup.{feed-with-entries}
+use Rattle.loader.specs.Fill.{wordAt, wordsAt, lastOf, keptAll}
 use Rattle.loader.proofs.fill.fill.Statement.{statement}
 use Rattle.loader.proofs.fill.fill.Tie as tie
 
 abbrev Inv-loop : tie.InvT-loop
-Inv-loop frame₀ at crc last bytes from n register₀ word₀ k₀ frame register word k =
+Inv-loop frame₀ at crc last bytes from n table register₀ word₀ k₀ frame register word k =
     (k ≤ n)
-    × (fedAll (wordsAt (n - k) bytes (from + 4 * k)) register ≡ fedAll (wordsAt n bytes from) crc)
+    × (fedWords register 2 (wordsAt (n - k) bytes (from + 4 * k)) ≡ fedWords crc 2 (wordsAt n bytes from))
     × (lastOf (wordsAt (n - k) bytes (from + 4 * k)) word ≡ lastOf (wordsAt n bytes from) last)
     × (keptAll (wordsAt (n - k) bytes (from + 4 * k)) (at + k) frame ≡ keptAll (wordsAt n bytes from) at frame₀)
 
 abbrev μ-loop : tie.MeasureT-loop
-μ-loop frame₀ at crc last bytes from n register₀ word₀ k₀ frame register word k = n - k
+μ-loop frame₀ at crc last bytes from n table register₀ word₀ k₀ frame register word k = n - k
 
 -- the first of the words that are left
 next : (n k : ℕ) (s : List ℕ) (from : ℕ) → k < n → wordsAt (n - k) s (from + 4 * k) ≡ wordAt s (from + 4 * k) ∷ wordsAt (n - (k + 1)) s (from + 4 * (k + 1))
@@ -28,6 +30,9 @@ next n k s from h =
     let e₁ : n - k ≡ suc (n - (k + 1)) = omega arith in
     let e₂ : from + 4 * k + 4 ≡ from + 4 * (k + 1) = omega arith in
     rw (e₁, e₂)
+
+table-requires : tie.Need-table-requires Inv-loop μ-loop
+table-requires c κs = search needs
 
 loop-holds : tie.Need-loop-holds Inv-loop μ-loop
 loop-holds c = (omega arith, simp (sub-zero, add-zero), simp (sub-zero, add-zero), simp (sub-zero, add-zero))
@@ -41,8 +46,8 @@ add-word-at c = omega arith
 word-at-requires : tie.Need-word-at-requires Inv-loop μ-loop
 word-at-requires c κs = omega arith
 
-feed-requires : tie.Need-feed-requires Inv-loop μ-loop
-feed-requires c κs = search needs
+feed-with-requires : tie.Need-feed-with-requires Inv-loop μ-loop
+feed-with-requires c κs = search needs
 
 add-frame : tie.Need-add-frame Inv-loop μ-loop
 add-frame c = omega arith
@@ -60,22 +65,23 @@ loop-less : tie.Need-loop-less Inv-loop μ-loop
 loop-less c = omega arith
 
 loop-again : tie.Need-loop-again Inv-loop μ-loop
-unfolding fedAll lastOf keptAll
+unfolding fedWords lastOf keptAll
 loop-again c =
-    let a = c .before .before .before .before .before .args in
-    let l = c .before .before .before .loop in
-    let w = c .before .word-at .ensures in
-    let e = next (a .n) (l .k) (now (a .bytes)) (a .from) (c .before .before .loop-test .taken) in (
+    let at = c .before .before .before .before .before in
+    let a = at .before .before .args in
+    let l = c .before .before .before .before .loop in
+    let w = c .before .before .word-at .ensures in
+    let e = next (a .n) (l .k) (now (a .bytes)) (a .from) (c .before .before .before .loop-test .taken) in (
       omega arith,
-      rw (c .feed .ensures, w) (rw e at (l .inv .1)),
+      rw (c .feed-with .ensures, at .table .ensures, feed-with-entries, w) (rw e at (l .inv .1)),
       rw w (rw e at (l .inv .2)),
       rw (w, ← add-assoc) (rw e at (l .inv .3)),
     )
 
 returns : tie.Need-returns Inv-loop μ-loop
-unfolding wordsAt fedAll lastOf keptAll
+unfolding wordsAt fedWords lastOf keptAll
 returns c =
-    let a = c .before .before .before .args in
+    let a = c .before .before .before .before .args in
     let l = c .before .loop in
     let e : a .n - l .k ≡ 0 = omega arith in (rw e at (l .inv .1), (rw e at (l .inv .2), rw e at (l .inv .3)))
 
@@ -85,11 +91,12 @@ fill-spec =
     (tie.spec
     Inv-loop
     μ-loop
+    table-requires
     loop-holds
     mul-word-at
     add-word-at
     word-at-requires
-    feed-requires
+    feed-with-requires
     add-frame
     mul-frame
     element-write-frame

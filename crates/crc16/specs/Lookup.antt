@@ -1,7 +1,6 @@
--- A half-word adds the xor of what its four nibbles add, and a fed register is the xor of what four half-words add.
+-- Fed by lookups in the table of `entries`, a register is what `feed` says: four half-words add up, and of each four nibbles.
 -- A number is the xor of its bits from k on and its bits below, and a function that is linear over xor keeps that.
 use mathlib.Core.Path.{_≡_, sym, _∙_}
-use mathlib.Core.List.{List}
 use Prim.Native.Nat.{ℕ, zero, suc, _+_, _*_, _/_, _%_, _^_, _<_}
 use native.Mathlib.Nat.{add-zero, zero-add, add-suc, suc-add, mul-one, mod-lt, le-of-suc-le-suc, not-suc-le-zero}
 use native.Mathlib.Omega.{arith}
@@ -11,7 +10,7 @@ use lib.Bits.{bitXor, xor-shifted, xor-block, xor-zero-r}
 use Rattle.crc16.specs.Register.{feed}
 use Rattle.crc16.specs.Bounds.{feed-register, feed-address, feed-word}
 use Rattle.crc16.specs.Linear.{feed-xor}
-use Rattle.crc16.specs.Nibbles.{part, entry, entries}
+use Rattle.crc16.specs.Nibbles.{part, entry, entries, lookedUp, feedWith}
 
 abbrev Linear : (ℕ → ℕ) → Type 0
 Linear f = (a b : ℕ) → f (bitXor a b) ≡ bitXor (f a) (f b)
@@ -40,26 +39,26 @@ nibbles : (g x : ℕ) →
     part g (x % 65536) ≡ bitXor (part g (x / 4096 % 16 * 4096)) (bitXor (part g (x / 256 % 16 * 256)) (bitXor (part g (x / 16 % 16 * 16)) (part g (x % 16))))
 nibbles g x = rw (split (part g) (part-xor g) 4 12 x, split (part g) (part-xor g) 4 8 x, split (part g) (part-xor g) 4 4 x)
 
--- a table t that is the definition's, and a group g
-module _ (t : List ℕ) (g : ℕ) (ht : t ≡ entries 256 0) (hg : g < 4) where
+-- a group g of the table
+module _ (g : ℕ) (hg : g < 4) where
   -- the entry of a nibble at place l of the group
-  looked-up : (l m : ℕ) → l < 4 → getD t (64 * g + 16 * l + m % 16) 0 ≡ part g (m % 16 * 16 ^ l)
+  entry-at : (l m : ℕ) → l < 4 → getD (entries 256 0) (64 * g + 16 * l + m % 16) 0 ≡ part g (m % 16 * 16 ^ l)
   unfolding entry
-  looked-up l m h =
+  entry-at l m h =
       let i = 64 * g + 16 * l + m % 16 in
       let eg : i / 64 ≡ g = omega arith in
       let el : i / 16 % 4 ≡ l = omega arith in
       let en : i % 16 ≡ m % 16 = omega arith in
-      rw (ht, entries-at 256 0 i (omega arith), zero-add, eg, el, en)
+      rw (entries-at 256 0 i (omega arith), zero-add, eg, el, en)
 
-  pub half-word : (x : ℕ) →
-      bitXor (getD t (64 * g + 48 + x / 4096 % 16) 0) (bitXor (getD t (64 * g + 32 + x / 256 % 16) 0) (bitXor (getD t (64 * g + 16 + x / 16 % 16) 0) (getD t (64 * g + x % 16) 0))) ≡ part g (x % 65536)
+  half-word : (x : ℕ) → lookedUp (entries 256 0) g x ≡ part g (x % 65536)
+  unfolding lookedUp
   half-word x =
-      let lowest = simp (add-zero, mul-one) at (looked-up 0 x (omega arith)) in
-      rw (looked-up 3 (x / 4096) (omega arith), looked-up 2 (x / 256) (omega arith), looked-up 1 (x / 16) (omega arith), lowest)
+      let lowest = simp (add-zero, mul-one) at (entry-at 0 x (omega arith)) in
+      rw (entry-at 3 (x / 4096) (omega arith), entry-at 2 (x / 256) (omega arith), entry-at 1 (x / 16) (omega arith), lowest)
       (sym (nibbles g x))
 
-pub half-words : (c a w : ℕ) →
+half-words : (c a w : ℕ) →
     bitXor (part 0 (c % 65536)) (bitXor (part 3 (a % 65536)) (bitXor (part 2 (w / 65536 % 65536)) (part 1 (w % 65536)))) ≡ feed c a w
 unfolding part
 half-words c a w =
@@ -67,3 +66,9 @@ half-words c a w =
     let low : a % 65536 % 32 ≡ a % 32 = omega arith in
     let address : feed 0 (a % 65536) 0 ≡ feed 0 a 0 = sym (feed-address 0 (a % 65536) 0) ∙ rw low (feed-address 0 a 0) in
     rw (feed-register c 0 0, address, ← word, feed-word 0 0 w, ← feed-xor 0 0 a 0 0 w, xor-zero-r a, ← feed-xor c 0 0 a 0 w, xor-zero-r c)
+
+-- so whoever holds the table of entries may feed through it
+pub feed-with-entries : (c a w : ℕ) → feedWith (entries 256 0) c a w ≡ feed c a w
+unfolding feedWith
+feed-with-entries c a w =
+    cc (half-word 0 (omega arith) c, half-word 3 (omega arith) a, half-word 2 (omega arith) (w / 65536), half-word 1 (omega arith) w, half-words c a w)
