@@ -20,7 +20,8 @@ use Rattle.config.specs.declared.Phase.{Phase}
 use Rattle.config.specs.declared.Phase.the-variants as Phase
 use Rattle.device.specs.declared.Device.{Device}
 use Rattle.image.specs.Image.{phaseNumber, subject, wordsLeft, wordsFilled, pending, bytesCount, bytesNumber, currentNumber, bit, flagBits, headWords}
-use Rattle.image.specs.Range.{AreWords, AreBytes, PhaseInRange, CurrentInRange, InRange}
+use Rattle.parts.specs.Bytes.{AreWords}
+use Rattle.image.specs.Range.{AreBytes, PhaseInRange, CurrentInRange, InRange}
 
 -- 001, Table 1: the addresses end at 14
 pub address-bound : (r : Register) → addressOf r ≤ 14

@@ -6,6 +6,7 @@ use mathlib.Core.List.{List, [], _∷_}
 use mathlib.Core.Bool.{cond}
 use lib.Dec.{eqb}
 use lib.ListN.{length as length·}
+use Rattle.parts.specs.Bytes.{AreWords}
 use Rattle.registers.specs.Addresses.{isFdri}
 use Rattle.config.specs.declared.Bytes.{Bytes}
 use Rattle.config.specs.declared.Bytes.the-variants as Bytes
@@ -18,11 +19,6 @@ use Rattle.device.specs.declared.Device.{Device}
 use Rattle.image.specs.Image.{registerWords}
 
 -- ---- sizes
-
--- words of 32 bits
-abbrev pub AreWords : List ℕ → Type 0
-AreWords [] = Unit {0}
-AreWords (w ∷ ws) = (w < 2 ^ 32) × AreWords ws
 
 -- bytes of 8 bits
 abbrev pub AreBytes : Bytes → Type 0

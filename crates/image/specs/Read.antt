@@ -9,7 +9,7 @@ use lib.Dec.{eqb}
 use lib.ListN.{length, getD}
 use lib.Pow.{shr-shr}
 use borrow.Author.Tests.{ne-eqb}
-use Rattle.registers.specs.Addresses.{addressOf, registerAt}
+use Rattle.registers.specs.Addresses.{addressOf, register-address}
 use Rattle.answers.specs.Numbers.{stopNumber}
 use Rattle.registers.specs.declared.Register.{Register}
 use Rattle.registers.specs.declared.Register.the-variants as Register
@@ -30,30 +30,16 @@ use Rattle.image.specs.Range.{AreBytes, PhaseInRange, keptPhase, keptPar
 
 -- ---- word 2
 
-register-at : (r : Register) → registerAt (addressOf r) ≡ Open.After r
-unfolding registerAt addressOf
-register-at Register.Crc = refl
-register-at Register.Far = refl
-register-at Register.Fdri = refl
-register-at Register.Cmd = refl
-register-at Register.Ctl = refl
-register-at Register.Mask = refl
-register-at Register.Lout = refl
-register-at Register.Cor = refl
-register-at Register.Mfwr = refl
-register-at Register.Flr = refl
-register-at Register.Idcode = refl
-
 register-of : (r : Register) → registerOf (addressOf r) ≡ r
 unfolding registerOf opened
-register-of r = ap opened (register-at r)
+register-of r = ap opened (register-address r)
 
 open-of : (o : Open) → openOf (openNumber o) ≡ o
 unfolding openOf
 open-of Open.Closed = refl
 open-of (Open.After r) =
     let e : addressOf r + 1 - 1 ≡ addressOf r = omega arith in
-    rw (ne-eqb (addressOf r + 1) 0 (λ h. omega arith), e) (register-at r)
+    rw (ne-eqb (addressOf r + 1) 0 (λ h. omega arith), e) (register-address r)
 
 stop-of : (s : Stop) → stopOf (stopNumber s) ≡ s
 unfolding stopOf stopNumber

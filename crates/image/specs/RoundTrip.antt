@@ -16,12 +16,12 @@ use Rattle.config.specs.declared.Control.{Control}
 use Rattle.config.specs.declared.Phase.{Phase}
 use Rattle.config.specs.declared.Phase.the-variants as Phase
 use Rattle.parts.specs.Memory.{bytesOf}
-use Rattle.parts.specs.Bytes.{word-bytes}
+use Rattle.parts.specs.Bytes.{AreWords, words-join, word-bytes}
 use Rattle.device.specs.declared.Device.{Device}
 use Rattle.image.specs.Image.{wordsFilled, currentNumber, headWords, imageWords, image}
 use Rattle.image.specs.Compare.{isImage, starts, accepted}
 use Rattle.image.specs.Decode.{wordAt, wordsAt, controlOf, registersOf, decoded}
-use Rattle.image.specs.Range.{InRange, AreWords, keptCurrent, keptPhase, keptControl, kept}
+use Rattle.image.specs.Range.{InRange, keptCurrent, keptPhase, keptControl, kept}
 use Rattle.image.specs.Laws.{head-length, image-length, words-length}
 use Rattle.image.specs.Numbers.{head-words}
 use Rattle.image.specs.Read.{phase-of, partial-of, current-of, flags-of}
@@ -60,13 +60,9 @@ words-bytes ws k (suc n) h e = rw (bytes-word ws k h, words-bytes ws (suc k) n h
 
 -- ---- decoding an image
 
-append-words : (xs ys : List ℕ) → AreWords xs → AreWords ys → AreWords (xs ++ ys)
-append-words [] ys h g = g
-append-words (x ∷ xs) ys h g = (h .0, append-words xs ys (h .1) g)
-
 module _ (d : Device) (r : InRange d) where
   image-words : AreWords (imageWords d)
-  image-words = append-words (headWords (d .phase) (d .control)) (d .frame) (head-words d r) (r .frame)
+  image-words = words-join (headWords (d .phase) (d .control)) (d .frame) (head-words d r) (r .frame)
 
   word-image : (k : ℕ) → wordAt (image d) k ≡ getD (imageWords d) k 0
   unfolding image

@@ -49,7 +49,7 @@ module _ (l f : ℕ) (own : ℕ → Bool) where
       let one = placed-keeps t x m (fit .1) (fit .2) size full in
       keeps-trans m (placed l t x m) _ one (spread-keeps x (t + 1) ts (placed l t x m) size (fit .3) (one .size ∙ full))
 
-  done-keeps : (s : Step) (m : List ℕ) → Fits l f own s → length m ≡ 4 * l * f → Keeps m (done l s m)
+  pub done-keeps : (s : Step) (m : List ℕ) → Fits l f own s → length m ≡ 4 * l * f → Keeps m (done l s m)
   unfolding done
   done-keeps (FrameWrite n fs) m fit full = written-keeps n fs m (fit .part) (fit .owned) (fit .sized) full
   done-keeps (MultiFrameWrite x ts) m fit full = spread-keeps x 0 ts m (fit .size) (fit .targets) full

@@ -14,3 +14,4 @@ pub mod Examples
 pub mod Loops
 pub mod Targets
 pub mod Accepting
+pub mod ByteFrames

@@ -77,7 +77,7 @@ run-word d m s i t e h = rw (four s i h) (word-run d t m (getD s i 0) (getD s (i
 
 -- ---- a word that only fills
 
-fills : (left filled : ℕ) (c : Control) (w : ℕ) → 1 < left → filled + 1 < lengthAt (c .device)
+pub fills : (left filled : ℕ) (c : Control) (w : ℕ) → 1 < left → filled + 1 < lengthAt (c .device)
     → word (Phase.Data Register.Fdri left filled) c w ≡ fed (Phase.Data Register.Fdri (left - 1) (filled + 1)) (filledControl (w ∷ []) c) (Event.Keep filled w)
 unfolding word dataWord fdriWord hold fedCrc addressOf fedWords lastOf
 fills left filled c w hl hf = simp (lt-leb left 1 hl, lt-ltb (filled + 1) (lengthAt (c .device)) hf)

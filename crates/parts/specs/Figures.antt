@@ -5,8 +5,8 @@ use Prim.Native.Nat.{ℕ, _+_, _*_, _≤_, _<_}
 use native.Mathlib.Omega.{arith}
 use lib.ListN.{getD}
 use borrow.Author.Tests.{lt-ltb}
-use Rattle.parts.specs.Device.{part, parts, partOf, figureOf, figure, frameLength, frameCount, memoryLength, valueOf, lengthAt, countAt, memoryAt}
-use Rattle.parts.specs.Table.{Limits, known-limits, length-limit, count-limit}
+use Rattle.parts.specs.Device.{part, parts, partOf, figureOf, figure, idcodeOf, frameLength, frameCount, memoryLength, valueOf, idcodeAt, lengthAt, countAt, memoryAt}
+use Rattle.parts.specs.Table.{Limits, known-limits, length-limit, count-limit, idcode-limit}
 use Rattle.parts.specs.Placing.{frame-end}
 use Rattle.parts.specs.declared.device.Part.{Part}
 use Rattle.parts.specs.declared.device.PartAnswer.{PartAnswer}
@@ -76,3 +76,6 @@ length-fits d = figure-limit frameLength 213 d length-limit
 
 pub count-fits : (d : ℕ) → countAt d ≤ 1945
 count-fits d = figure-limit frameCount 1945 d count-limit
+
+pub idcode-fits : (d : ℕ) → idcodeAt d ≤ 0xFFFFFFFF
+idcode-fits d = figure-limit idcodeOf 0xFFFFFFFF d idcode-limit

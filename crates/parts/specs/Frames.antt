@@ -2,7 +2,7 @@
 -- Over C and B alone: each run of columns is in order and counts its frames, by induction on its length.
 use mathlib.Core.Path.{_≡_, _∙_, refl, sym, ap}
 use mathlib.Core.List.{List, [], _∷_, _++_}
-use Prim.Native.Nat.{ℕ, zero, suc, _+_, _-_, _*_, _≤_, _<_}
+use Prim.Native.Nat.{ℕ, zero, suc, _+_, _-_, _*_, _^_, _≤_, _<_}
 use native.Mathlib.Nat.{sub-zero}
 use native.Mathlib.Omega.{arith}
 use native.Mathlib.Decide.{decLt}
@@ -10,7 +10,7 @@ use borrow.Author.Tests.{lt-ltb, le-ltb}
 use Rattle.parts.specs.Device.{partOf, frameCount}
 use Rattle.parts.specs.Table.{known-limits}
 use Rattle.parts.specs.Columns.{Column, columnsFrom, runs, columnsOf, columns, total}
-use Rattle.parts.specs.Address.{block, major, minor, cleared, addressIn, numberIn, addressFor, frameAddress, numberFor, frameNumber}
+use Rattle.parts.specs.Address.{address, block, major, minor, cleared, addressTold, addressIn, numberIn, addressFor, frameAddress, numberFor, frameNumber}
 use Rattle.parts.specs.Runs.{run-total}
 use Rattle.parts.specs.RoundTrip.{place, InOrder, number-of-address, address-of-number, address-below, address-outside}
 use Rattle.parts.specs.declared.device.Part.{Part}
@@ -112,6 +112,13 @@ module _ (d : ℕ) where
       let f = number-part (partOf d) a n e in
       let g = address-of-number (columns (f .0)) 0 (block a) (major a) (minor a) n (f .2) in
       rw (f .1) (simp (lt-ltb n (frameCount (f .0)) (number-below (f .0) a n (f .1) e)) ((rw (sub-zero n) at (g .found))))
+
+  -- an address has its fields alone
+  pub address-fits : (n a : ℕ) → frameAddress d n ≡ AddressAnswer.Address a → a < 2 ^ 27
+  unfolding addressTold address block major minor
+  address-fits n a e =
+      let fields : a ≡ cleared a = ap addressTold (sym e ∙ address-number-address a n (number-address-number n a e)) in
+      rw fields (omega arith)
 
   -- distinct numbers have distinct addresses
   pub distinct : (n m a : ℕ) → frameAddress d n ≡ AddressAnswer.Address a → frameAddress d m ≡ AddressAnswer.Address a → n ≡ m

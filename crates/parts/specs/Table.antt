@@ -10,7 +10,7 @@ use native.Mathlib.Decide.{decLt}
 use lib.Dec.{leb}
 use lib.ListN.{length, getD}
 use borrow.Author.Tests.{lt-ltb, le-ltb, leb-true}
-use Rattle.parts.specs.Device.{part, parts, partOf, frameLength, frameCount, memoryLength}
+use Rattle.parts.specs.Device.{part, parts, partOf, idcodeOf, frameLength, frameCount, memoryLength}
 use Rattle.parts.specs.declared.device.Part.{Part}
 use Rattle.parts.specs.declared.device.PartAnswer.{PartAnswer}
 use Rattle.parts.specs.declared.device.PartAnswer.the-variants as PartAnswer
@@ -39,7 +39,7 @@ configuration-bits = refl
 -- ---- the limits of every part
 
 within : Part → Bool
-within p = leb (p .rows) 104 && leb (p .columns) 80 && leb (p .«ram_columns») 4
+within p = leb (p .rows) 104 && leb (p .columns) 80 && leb (p .«ram_columns») 4 && leb (p .idcode) 0xFFFFFFFF
 
 all : (Part → Bool) → List Part → Bool
 all f [] = true
@@ -55,13 +55,15 @@ pub record Limits (p : Part) : Type 0 where
   pub rows : p .rows ≤ 104
   pub columns : p .columns ≤ 80
   pub ram-columns : p .«ram_columns» ≤ 4
+  pub idcode : p .idcode ≤ 0xFFFFFFFF
 
 limits : (p : Part) → within p ≡ true → Limits p
 unfolding within
 limits p t =
-    let both = and-eq-true-iff (leb (p .rows) 104 && leb (p .columns) 80) (leb (p .«ram_columns») 4) .0 t in
+    let all = and-eq-true-iff (leb (p .rows) 104 && leb (p .columns) 80 && leb (p .«ram_columns») 4) (leb (p .idcode) 0xFFFFFFFF) .0 t in
+    let both = and-eq-true-iff (leb (p .rows) 104 && leb (p .columns) 80) (leb (p .«ram_columns») 4) .0 (all .0) in
     let first = and-eq-true-iff (leb (p .rows) 104) (leb (p .columns) 80) .0 (both .0) in
-    record { rows = leb-true _ _ (first .0); columns = leb-true _ _ (first .1); ram-columns = leb-true _ _ (both .1) }
+    record { rows = leb-true _ _ (first .0); columns = leb-true _ _ (first .1); ram-columns = leb-true _ _ (both .1); idcode = leb-true _ _ (all .1) }
 
 -- the figures of the XC3S5000 bound them all
 pub length-limit : (p : Part) → Limits p → frameLength p ≤ 213
@@ -75,6 +77,11 @@ count-limit p l = omega arith
 pub memory-limit : (p : Part) → Limits p → memoryLength p ≤ 1657140
 unfolding memoryLength
 memory-limit p l = mul-le-mul (mul-le-mul (le-refl 4) (length-limit p l)) (count-limit p l)
+
+-- IDCODE is a word
+pub idcode-limit : (p : Part) → Limits p → idcodeOf p ≤ 0xFFFFFFFF
+unfolding idcodeOf
+idcode-limit p l = l .idcode
 
 pub known-limits : (d : ℕ) (p : Part) → partOf d ≡ PartAnswer.Known p → Limits p
 unfolding partOf parts within all

@@ -1,6 +1,8 @@
 -- The registers by address.
 -- Sources: 001, Table 1; 01, "Words and packets", the paragraph "Registers".
-use Prim.Native.Nat.{ℕ}
+use mathlib.Core.Path.{_≡_, refl}
+use Prim.Native.Nat.{ℕ, _<_}
+use native.Mathlib.Omega.{arith}
 use mathlib.Core.Bool.{Bool, cond}
 use lib.Dec.{eqb}
 use Rattle.registers.specs.declared.Register.{Register}
@@ -45,3 +47,35 @@ registerAt a =
     (cond (eqb a 10) (Open.After Register.Mfwr)
     (cond (eqb a 11) (Open.After Register.Flr)
     (cond (eqb a 14) (Open.After Register.Idcode) Open.Closed))))))))))
+
+-- ---- laws
+
+-- the register at a register's address is that register
+pub register-address : (r : Register) → registerAt (addressOf r) ≡ Open.After r
+unfolding addressOf registerAt
+register-address Register.Crc = refl
+register-address Register.Far = refl
+register-address Register.Fdri = refl
+register-address Register.Cmd = refl
+register-address Register.Ctl = refl
+register-address Register.Mask = refl
+register-address Register.Lout = refl
+register-address Register.Cor = refl
+register-address Register.Mfwr = refl
+register-address Register.Flr = refl
+register-address Register.Idcode = refl
+
+-- an address has four bits
+pub address-small : (r : Register) → addressOf r < 16
+unfolding addressOf
+address-small Register.Crc = omega arith
+address-small Register.Far = omega arith
+address-small Register.Fdri = omega arith
+address-small Register.Cmd = omega arith
+address-small Register.Ctl = omega arith
+address-small Register.Mask = omega arith
+address-small Register.Lout = omega arith
+address-small Register.Cor = omega arith
+address-small Register.Mfwr = omega arith
+address-small Register.Flr = omega arith
+address-small Register.Idcode = omega arith

@@ -1,3 +1,5 @@
 pub mod Packets
 pub mod Stream
+pub mod After
 pub mod Length
+pub mod Words

@@ -1,0 +1,11 @@
+pub mod Goes
+pub mod Headers
+pub mod State
+pub mod Writes
+pub mod Multi
+pub mod Filling
+pub mod Frames
+pub mod FrameData
+pub mod Steps
+pub mod Sync
+pub mod Whole

@@ -1,0 +1,100 @@
+-- Where a command, a frame address and a check word lead.
+-- By what the control machine makes of the word; WCFG and MFWR act on nothing, also at a FAR write.
+use mathlib.Core.Path.{_≡_, _∙_, refl, sym, ap, subst}
+use mathlib.Core.List.{List}
+use mathlib.Core.Bool.{Bool, false}
+use Prim.Native.Nat.{ℕ, _^_, _≤_, _<_}
+use native.Mathlib.Omega.{arith}
+use lib.Dec.{eqb}
+use borrow.Author.Tests.{le-ltb}
+use Rattle.crc16.specs.Register.{feed, checkWord}
+use Rattle.crc16.specs.CheckWord.{check-word-passes, check-word-small}
+use Rattle.parts.specs.Device.{lengthAt, countAt}
+use Rattle.registers.specs.Addresses.{addressOf}
+use Rattle.registers.specs.declared.Register.the-variants as Register
+use Rattle.registers.specs.declared.Open.the-variants as Open
+use Rattle.config.specs.Part.{named}
+use Rattle.config.specs.Registers.{withCrc, fedCrc, hold}
+use Rattle.config.specs.Control.{fed, withRegisters, withFlags, withCurrent, withChecked}
+use Rattle.config.specs.Commands.{signalled, crcAfter, phaseAfter, acted}
+use Rattle.config.specs.Words.{ended, onward, put, checked, farWord, cmdWord, dataWord}
+use Rattle.config.specs.declared.Control.{Control}
+use Rattle.config.specs.declared.Current.{Current}
+use Rattle.config.specs.declared.Phase.{Phase}
+use Rattle.config.specs.declared.Phase.the-variants as Phase
+use Rattle.config.specs.declared.Event.the-variants as Event
+use Rattle.stream.specs.Packets.{Packet, crcOf, packetWords}
+use Rattle.loader.specs.Memory.{buffered, stored}
+use Rattle.reconfigure.specs.Headers.{write-goes}
+use Rattle.reconfigure.specs.State.{State, waiting, moved, Leads}
+
+-- a check passed: the CRC is zero
+abbrev pub passed : Control → Control
+passed c = withFlags (withChecked (c .flags)) (withRegisters (withCrc 0 (c .registers)) c)
+
+-- ---- commands that act on nothing
+
+pub record Quiet (k : ℕ) : Type 0 where
+  pub known : k ≤ 13
+  pub idle : (p : Phase) (c : Control) → acted k p c ≡ fed p c Event.Nothing
+  pub fed-on : (v : ℕ) → crcOf v (Packet.Command k) ≡ feed v 4 k
+
+pub wcfg-quiet : Quiet 1
+unfolding acted signalled crcAfter phaseAfter crcOf addressOf
+wcfg-quiet = record { known = omega arith; idle = λ p c. refl; fed-on = λ v. refl }
+
+pub mfwr-quiet : Quiet 2
+unfolding acted signalled crcAfter phaseAfter crcOf addressOf
+mfwr-quiet = record { known = omega arith; idle = λ p c. refl; fed-on = λ v. refl }
+
+-- what the control machine makes of a command
+pub command-word : (k : ℕ) (c : Control) → k ≤ 13 → dataWord Register.Cmd 1 0 c k ≡ acted k (Phase.Header Open.Closed) (put Register.Cmd k c)
+unfolding dataWord cmdWord onward ended addressOf
+command-word k c known = simp (le-ltb 13 k known)
+
+-- ---- from a state to the next
+
+module _ (d v k : ℕ) (n : Current) (b : Bool) (ws m : List ℕ) where
+  -- a command
+  pub command-leads : (j : ℕ) → Quiet j → Leads (waiting d v k n b ws) m (packetWords v (Packet.Command j)) (waiting d (crcOf v (Packet.Command j)) j n b ws) m
+  unfolding packetWords hold fedCrc addressOf buffered stored
+  command-leads j quiet =
+      record {
+        from = λ e h.
+            record {
+              next = record { phase = Phase.Header Open.Closed; control = put Register.Cmd j (e .control); frame = e .frame };
+              goes = write-goes e m Register.Cmd j _ (refl, refl) (ap (λ (s : State). s .phase) h) (ap (λ (s : State). s .partial) h) (omega (arith, quiet .known))
+                  (command-word j (e .control) (quiet .known) ∙ quiet .idle (Phase.Header Open.Closed) (put Register.Cmd j (e .control)));
+              seen = rw (quiet .fed-on v) (ap (λ (s : State). moved (Phase.Header Open.Closed) (feed (s .crc) 4 j) j (s .current) (s .valid) (s .words) s) h);
+            };
+      }
+
+  -- a frame's address, while a command stands in CMD that acts on nothing
+  pub address-leads : (a : ℕ) → Quiet k → a < 2 ^ 32
+      → Leads (waiting d v k n b ws) m (packetWords v (Packet.Write Register.Far a)) (waiting d (crcOf v (Packet.Write Register.Far a)) k (named d a) b ws) m
+  unfolding packetWords crcOf dataWord farWord onward ended hold fedCrc addressOf buffered stored
+  address-leads a quiet small =
+      record {
+        from = λ e h.
+            let c = withCurrent (named (e .control .device) a) (put Register.Far a (e .control)) in
+            let standing = subst Quiet (sym (ap (λ (s : State). s .cmd) h)) quiet in
+            record {
+              next = record { phase = Phase.Header Open.Closed; control = c; frame = e .frame };
+              goes = write-goes e m Register.Far a (fed (Phase.Header Open.Closed) c Event.Nothing) (refl, refl) (ap (λ (s : State). s .phase) h) (ap (λ (s : State). s .partial) h) small (standing .idle (Phase.Header Open.Closed) c);
+              seen = ap (λ (s : State). moved (Phase.Header Open.Closed) (feed (s .crc) 1 a) (s .cmd) (named (s .device) a) (s .valid) (s .words) s) h;
+            };
+      }
+
+  -- the word that passes the check
+  pub check-leads : Leads (waiting d v k n b ws) m (packetWords v Packet.Check) (waiting d 0 k n b ws) m
+  unfolding packetWords dataWord checked onward ended addressOf buffered stored
+  check-leads =
+      record {
+        from = λ e h.
+            record {
+              next = record { phase = Phase.Header Open.Closed; control = passed (e .control); frame = e .frame };
+              goes = write-goes e m Register.Crc (checkWord v) (fed (Phase.Header Open.Closed) (passed (e .control)) Event.Nothing) (refl, refl) (ap (λ (s : State). s .phase) h) (ap (λ (s : State). s .partial) h) (omega (arith, check-word-small v))
+                  (rw (ap (λ (s : State). s .crc) h, check-word-passes v));
+              seen = ap (λ (s : State). moved (Phase.Header Open.Closed) 0 (s .cmd) (s .current) (s .valid) (s .words) s) h;
+            };
+      }

@@ -1,0 +1,1 @@
+// Compile, then load: demand 3, over the loader's definition.
