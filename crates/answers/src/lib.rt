@@ -1,4 +1,5 @@
 // What the calls answer, and 01's number of each answer. Here: power-on and load.
+pub mod change; // change.rt: reconfigurations
 pub mod layout; // layout.rt: checks of a layout
 
 // Why a load stopped: 01's stops 1 to 10 in their order.

@@ -1,7 +1,7 @@
 -- Commands and startup.
 -- Sources: 001, Table 2 and the four operations after Table 11; 01, "CMD".
 use Prim.Native.Nat.{ℕ}
-use mathlib.Core.Bool.{Bool, true, false, cond, _&&_, _||_}
+use mathlib.Core.Bool.{true, false, cond, _&&_, _||_}
 use lib.Dec.{eqb}
 use Rattle.config.specs.Registers.{withCrc}
 use Rattle.config.specs.Control.{withRegisters, withFlags, withGhigh, withStartup, fed}

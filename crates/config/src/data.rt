@@ -21,7 +21,7 @@ use registers::address_of;
 ghost use mathlib.Core.Path.{_≡_};
 ghost use Prim.Native.Nat.{_<_};
 ghost use Rattle.config.specs.Control.{withRegisters, withFlags, withCurrent};
-ghost use Rattle.config.specs.Words.{ended, onward, put, checked, crcWord, farWord, cmdWord, stepped, frameStored, fdriWord, mfwrStored, mfwrWord, idcodeWord, flrWord, dataWord};
+ghost use Rattle.config.specs.Words.{onward, put, checked, crcWord, farWord, cmdWord, stepped, frameStored, fdriWord, mfwrStored, mfwrWord, idcodeWord, flrWord, dataWord};
 
 fn with_registers(registers: Registers, control: Control) -> Control
     ensures { λ r. ⌜ r ≡ withRegisters registers control ⌝ }

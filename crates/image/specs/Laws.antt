@@ -1,14 +1,14 @@
 -- Laws of runs of stores and of comparisons.
 -- By induction on the list that is stored or compared.
 use mathlib.Core.Path.{_≡_, _∙_, refl, sym, ap}
-use mathlib.Core.List.{List, [], _∷_, _++_, append-nil}
+use mathlib.Core.List.{List, [], _∷_, _++_}
 use mathlib.Core.Bool.{Bool, true, false, _&&_, and-true, and-assoc}
 use Prim.Native.Nat.{ℕ, zero, suc, _+_, _*_, _-_, _/_, _%_, _^_, _≤_, _<_}
 use native.Mathlib.Omega.{arith}
 use native.Mathlib.Numerals.{add-one}
 use lib.Dec.{eqb}
 use lib.ListN.{length, getD, drop, set, length-append, drop-of-length-le}
-use lib.Seq.{sets, sets-eq, drop-cons, drop-drop}
+use lib.Seq.{sets, drop-cons, drop-drop}
 use Rattle.parts.specs.Memory.{bytesOf}
 use Rattle.parts.specs.Bytes.{bytes-length, bytes-append, sets-append, sets-all}
 use Rattle.config.specs.declared.Phase.{Phase}

@@ -3,10 +3,8 @@
 use Prim.Native.Nat.{ℕ, _^_, _≤_, _<_}
 use mathlib.Core.Bool.{Bool, true, false, cond}
 use native.Mathlib.Omega.{arith}
-use Rattle.registers.specs.Addresses.{addressOf, isFdri}
+use Rattle.registers.specs.Addresses.{isFdri, address-bound}
 use Rattle.answers.specs.Numbers.{stopNumber}
-use Rattle.registers.specs.declared.Register.{Register}
-use Rattle.registers.specs.declared.Register.the-variants as Register
 use Rattle.registers.specs.declared.Open.{Open}
 use Rattle.registers.specs.declared.Open.the-variants as Open
 use Rattle.answers.specs.declared.Stop.{Stop}
@@ -22,21 +20,6 @@ use Rattle.device.specs.declared.Device.{Device}
 use Rattle.image.specs.Image.{phaseNumber, subject, wordsLeft, wordsFilled, pending, bytesCount, bytesNumber, currentNumber, bit, flagBits, headWords}
 use Rattle.parts.specs.Bytes.{AreWords}
 use Rattle.image.specs.Range.{AreBytes, PhaseInRange, CurrentInRange, InRange}
-
--- 001, Table 1: the addresses end at 14
-pub address-bound : (r : Register) → addressOf r ≤ 14
-unfolding addressOf
-address-bound Register.Crc = omega arith
-address-bound Register.Far = omega arith
-address-bound Register.Fdri = omega arith
-address-bound Register.Cmd = omega arith
-address-bound Register.Ctl = omega arith
-address-bound Register.Mask = omega arith
-address-bound Register.Lout = omega arith
-address-bound Register.Cor = omega arith
-address-bound Register.Mfwr = omega arith
-address-bound Register.Flr = omega arith
-address-bound Register.Idcode = omega arith
 
 -- 01: "stop number ... 1 to 10"
 stop-bound : (s : Stop) → stopNumber s ≤ 10

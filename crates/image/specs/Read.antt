@@ -12,7 +12,6 @@ use borrow.Author.Tests.{ne-eqb}
 use Rattle.registers.specs.Addresses.{addressOf, register-address}
 use Rattle.answers.specs.Numbers.{stopNumber}
 use Rattle.registers.specs.declared.Register.{Register}
-use Rattle.registers.specs.declared.Register.the-variants as Register
 use Rattle.registers.specs.declared.Open.{Open}
 use Rattle.registers.specs.declared.Open.the-variants as Open
 use Rattle.answers.specs.declared.Stop.{Stop}

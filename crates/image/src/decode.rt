@@ -11,7 +11,6 @@ use device::Device;
 use registers::Open;
 use registers::Register;
 ghost use mathlib.Core.Path.{_≡_};
-ghost use Rattle.registers.specs.Addresses.{registerAt};
 ghost use Rattle.image.specs.Decode.{openOf, registerOf, stopOf, pendingOf, phaseOf, partialOf, currentOf, flagsOf, registersOf, controlOf, wordsAt, decoded};
 
 // Word 2 of a header.

@@ -9,8 +9,6 @@ use registers::Open;
 use registers::Register;
 ghost use mathlib.Core.Path.{_≡_};
 ghost use Prim.Native.Nat.{_≤_};
-ghost use Rattle.registers.specs.Addresses.{addressOf};
-ghost use Rattle.answers.specs.Numbers.{stopNumber};
 ghost use Rattle.image.specs.Image.{phaseNumber, openNumber, subject as subjectOf, wordsLeft, wordsFilled};
 ghost use Rattle.image.specs.Image.{pending as pendingOf, bytesCount, bytesNumber, currentNumber, bit as bitOf, flagBits, headWords};
 

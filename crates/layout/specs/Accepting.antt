@@ -1,7 +1,7 @@
 -- What an accepted check tells: the device has a part, the layout was read, its step count stands at offset 2.
 -- The layout's edition and device are numbers under 128, of one byte each; a reading for the whole part gives the same steps.
-use mathlib.Core.Path.{_≡_, refl, sym, ap, subst}
-use Prim.Native.Nat.{ℕ, _+_, _≤_, _<_}
+use mathlib.Core.Path.{_≡_, _∙_, refl, sym, ap, subst}
+use Prim.Native.Nat.{ℕ, _+_, _*_, _≤_, _<_}
 use mathlib.Core.List.{List}
 use mathlib.Core.Bool.{Bool, true, false}
 use native.Mathlib.Omega.{arith}
@@ -21,7 +21,7 @@ use Rattle.parts.specs.Cases.{either}
 use Rattle.layout.specs.Range.{range, owns}
 use Rattle.layout.specs.Step.{Step, Reading, Read}
 use Rattle.layout.specs.Reader.{stepsAt}
-use Rattle.layout.specs.Layout.{layoutRead, verdictOf, checkFor, check}
+use Rattle.layout.specs.Layout.{layoutRead, streamWords, verdictOf, checkFor, check}
 use Rattle.layout.specs.Machine.{allDone, madeOf, machine}
 use Rattle.layout.specs.Whole.{layout-view}
 use Rattle.layout.specs.Narrow.{narrower}
@@ -32,36 +32,55 @@ unfoldable pub isRead : {A : Type 0} → Reading A → Bool
 isRead (Reading.Read x next) = true
 isRead (Reading.Refused c at) = false
 
--- the steps after a step count that was read
-unfoldable pub stepsFrom : ℕ → ℕ → (ℕ → Bool) → List ℕ → Number → Reading (List Step)
-stepsFrom l f own b (Number.Value n first) = stepsAt l f own b n first
-stepsFrom l f own b (Number.Refused c) = Reading.Refused c 2
+-- the step count at offset 2, and the steps after it, which are the layout's
+record Counted (l f d : ℕ) (own : ℕ → Bool) (b : List ℕ) : Type 0 where
+  number : ℕ
+  first : ℕ
+  count-read : numberAt b 2 ≡ Number.Value number first
+  all-read : stepsAt l f own b number first ≡ layoutRead l f own b d
 
--- a step count that is refused has no steps
-pub none-from : (P : Type 0) (l f : ℕ) (own : ℕ → Bool) (b : List ℕ) (c : Cause) → isRead (stepsFrom l f own b (Number.Refused c)) ≡ true → P
-unfolding stepsFrom isRead
-none-from P l f own b c t = let z : _≡_ {A = ℕ} 0 1 = cc in absurd (omega arith)
+counted : (l f d : ℕ) (own : ℕ → Bool) (b : List ℕ) → d ≤ 7 → isRead (layoutRead l f own b d) ≡ true → Counted l f d own b
+unfolding isRead
+counted l f d own b h t = go (layoutRead l f own b d) refl t
+  where
+    go : (x : Reading (List Step)) → layoutRead l f own b d ≡ x → isRead x ≡ true → Counted l f d own b
+    go (Reading.Read ss next) e k =
+        let v = layout-view l f own b d ss next e in
+        let one = number-short b 0 1 (v .device) (v .edition-read) (omega arith) in
+        let two = number-short b (v .device) d (v .count) (v .device-read) (omega arith) in
+        let place : 2 ≡ v .count = omega (arith, one, two) in
+        record { number = v .number; first = v .first; count-read = rw place (v .count-read); all-read = v .all-read ∙ sym e }
+    go (Reading.Refused c at) e k = let z : _≡_ {A = ℕ} 0 1 = cc in absurd (omega arith)
 
-steps-from : (l f d : ℕ) (own : ℕ → Bool) (b : List ℕ) (ss : List Step) (next : ℕ) → d ≤ 7 → layoutRead l f own b d ≡ Read ss next → stepsFrom l f own b (numberAt b 2) ≡ Read ss next
-unfolding stepsFrom
-steps-from l f d own b ss next h e =
-    let v = layout-view l f own b d ss next e in
-    let one = number-short b 0 1 (v .device) (v .edition-read) (omega arith) in
-    let two = number-short b (v .device) d (v .count) (v .device-read) (omega arith) in
-    let place : 2 ≡ v .count = omega (arith, one, two) in
-    rw (place, v .count-read) (v .all-read)
+module _ (l f d : ℕ) (own : ℕ → Bool) (b : List ℕ) (known : d ≤ 7) (taken : isRead (layoutRead l f own b d) ≡ true) where
+  pub steps-from : (n first : ℕ) → numberAt b 2 ≡ Number.Value n first → stepsAt l f own b n first ≡ layoutRead l f own b d
+  steps-from n first e =
+      let v = counted l f d own b known taken in
+      let g = v .count-read in
+      let same : n ≡ v .number = cc in
+      let place : first ≡ v .first = cc in
+      rw (same, place) (v .all-read)
+
+  -- it is never refused
+  pub none-from : (P : Type 0) (c : Cause) → numberAt b 2 ≡ Number.Refused c → P
+  none-from P c e =
+      let v = counted l f d own b known taken in
+      let g = v .count-read in
+      let z : _≡_ {A = ℕ} 0 1 = cc in
+      absurd (omega arith)
 
 -- ---- an accepted check
 
-pub record Taken (d : ℕ) (r : FrameRange) (b : List ℕ) : Type 0 where
+pub record Taken (d n : ℕ) (r : FrameRange) (b : List ℕ) : Type 0 where
   pub known : d ≤ 7
   pub inside : r .first + r .count ≤ countAt d
   pub steps : List Step
   pub next : ℕ
   pub was-read : layoutRead (lengthAt d) (countAt d) (owns r) b d ≡ Read steps next
+  pub size : n ≡ 4 * streamWords (lengthAt d) steps
 
 abbrev Accepts : ℕ → FrameRange → List ℕ → Verdict → Type 0
-Accepts d r b (Verdict.Accepted n) = Taken d r b
+Accepts d r b (Verdict.Accepted n) = Taken d n r b
 Accepts d r b Verdict.UnknownDevice = Unit {0}
 Accepts d r b Verdict.WrongRange = Unit {0}
 Accepts d r b Verdict.WrongMemory = Unit {0}
@@ -82,7 +101,7 @@ read-accepts : (d f : ℕ) (r : FrameRange) (b : List ℕ) → figure frameCount
 unfolding verdictOf valueOf
 read-accepts d f r b e h (Reading.Read ss next) k =
     let same : countAt d ≡ f = ap valueOf e in
-    record { known = known-device d f e; inside = rw same h; steps = ss; next = next; was-read = rw same k }
+    record { known = known-device d f e; inside = rw same h; steps = ss; next = next; was-read = rw same k; size = refl }
 read-accepts d f r b e h (Reading.Refused c at) k = tt
 
 check-accepts : (d : ℕ) (r : FrameRange) (b : List ℕ) (q : Figure) → figure frameCount d ≡ q → Accepts d r b (checkFor q d r b)
@@ -91,7 +110,7 @@ check-accepts d r b (Figure.Value f) e =
     either (Accepts d r b) (ltb f (r .first + r .count)) (λ _. tt) (λ inside. read-accepts d f r b e (ltb-false f _ inside) _ refl)
 check-accepts d r b Figure.UnknownDevice e = tt
 
-pub accepted : (d n : ℕ) (r : FrameRange) (b : List ℕ) → check d r b ≡ Verdict.Accepted n → Taken d r b
+pub accepted : (d n : ℕ) (r : FrameRange) (b : List ℕ) → check d r b ≡ Verdict.Accepted n → Taken d n r b
 accepted d n r b e = subst (Accepts d r b) e (check-accepts d r b (figure frameCount d) refl)
 
 -- ---- the reference machine on an accepted layout
@@ -107,15 +126,12 @@ unfolding madeOf
 machine-done d r b m ss next e =
     rw (narrower (lengthAt d) (countAt d) d (owns r) (owns (range 0 (countAt d))) b ss next (λ n inside o. whole n (countAt d) inside) e)
 
--- it does the steps that stand after the step count at offset 2
-pub machine-steps : (d : ℕ) (r : FrameRange) (b : List ℕ) → d ≤ 7 → isRead (layoutRead (lengthAt d) (countAt d) (owns r) b d) ≡ true
-    → let steps = stepsFrom (lengthAt d) (countAt d) (owns r) b (numberAt b 2) in (isRead steps ≡ true) × ((m : List ℕ) → madeOf (lengthAt d) steps m ≡ machine d b m)
+-- it does the steps that are read for a range
+pub machine-read : (d : ℕ) (r : FrameRange) (b m : List ℕ) → isRead (layoutRead (lengthAt d) (countAt d) (owns r) b d) ≡ true
+    → madeOf (lengthAt d) (layoutRead (lengthAt d) (countAt d) (owns r) b d) m ≡ machine d b m
 unfolding isRead madeOf
-machine-steps d r b h t = go (layoutRead (lengthAt d) (countAt d) (owns r) b d) refl t
+machine-read d r b m t = go (layoutRead (lengthAt d) (countAt d) (owns r) b d) refl t
   where
-    go : (x : Reading (List Step)) → layoutRead (lengthAt d) (countAt d) (owns r) b d ≡ x → isRead x ≡ true
-        → let steps = stepsFrom (lengthAt d) (countAt d) (owns r) b (numberAt b 2) in (isRead steps ≡ true) × ((m : List ℕ) → madeOf (lengthAt d) steps m ≡ machine d b m)
-    go (Reading.Read ss next) e k =
-        let found = steps-from (lengthAt d) (countAt d) d (owns r) b ss next h e in
-        (rw found, λ m. rw found (sym (machine-done d r b m ss next e)))
+    go : (x : Reading (List Step)) → layoutRead (lengthAt d) (countAt d) (owns r) b d ≡ x → isRead x ≡ true → madeOf (lengthAt d) x m ≡ machine d b m
+    go (Reading.Read ss next) e k = sym (machine-done d r b m ss next e)
     go (Reading.Refused c at) e k = let z : _≡_ {A = ℕ} 0 1 = cc in absurd (omega arith)

@@ -15,3 +15,4 @@ pub mod Loops
 pub mod Targets
 pub mod Accepting
 pub mod ByteFrames
+pub mod First

@@ -84,6 +84,9 @@ module _ (l : ℕ) (m : List ℕ) where
 pub run-device : (d : Device) (m xs : List ℕ) → run d m xs .device .control .device ≡ d .control .device
 run-device d m xs = run-invariant (λ e _. e .control .device ≡ d .control .device) (λ e _ x _ i. byte-keeps (e .phase) (e .control) x .device ∙ i) d m xs refl
 
+pub run-buffer : (d : Device) (m xs : List ℕ) → length (run d m xs .device .frame) ≡ length (d .frame)
+run-buffer d m xs = run-invariant (λ e _. length (e .frame) ≡ length (d .frame)) (λ e _ x _ i. buffered-length (fedByte e x .event) (e .frame) ∙ i) d m xs refl
+
 stores-step : (d : Device) (x : ℕ) (xs : List ℕ) → isStopped (d .phase) ≡ false → stores d (x ∷ xs) ≡ storesOf (fedByte d x .event) ++ stores (next d x) xs
 unfolding stores
 stores-step d x xs h = rw h

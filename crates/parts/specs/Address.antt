@@ -6,7 +6,6 @@ use mathlib.Core.Bool.{Bool, cond, _&&_}
 use lib.Dec.{eqb, ltb}
 use Rattle.parts.specs.Device.{partOf, frameCount}
 use Rattle.parts.specs.Columns.{Column, columns}
-use Rattle.parts.specs.declared.device.Part.{Part}
 use Rattle.parts.specs.declared.device.PartAnswer.{PartAnswer}
 use Rattle.parts.specs.declared.device.PartAnswer.the-variants as PartAnswer
 use Rattle.parts.specs.declared.frame.AddressAnswer.{AddressAnswer}

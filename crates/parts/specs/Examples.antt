@@ -1,6 +1,6 @@
 -- 01's worked addresses, marked P, as a single closed statement.
 use mathlib.Core.Path.{_≡_, refl}
-use mathlib.Core.List.{List, [], _∷_, map}
+use mathlib.Core.List.{[], _∷_, map}
 use Rattle.parts.specs.Device.{parts, partOf, frameCount}
 use Rattle.parts.specs.Columns.{columnsFrom, runs, columnsOf}
 use Rattle.parts.specs.Address.{address, addressIn, addressFor, frameAddress}

@@ -1,10 +1,10 @@
 -- The lookups a run of columns at a time, as the code goes.
 -- By induction on the length of the run, and by the place of a run among the six.
-use mathlib.Core.Path.{_≡_, _∙_, refl, sym, ap}
+use mathlib.Core.Path.{_≡_, _∙_, sym, ap}
 use mathlib.Core.List.{List, [], _∷_, _++_}
-use mathlib.Core.Bool.{Bool, true, false, cond, _&&_, and-eq-true-iff, true≢false}
+use mathlib.Core.Bool.{Bool, true, false, _&&_, and-eq-true-iff, true≢false}
 use Prim.Native.Nat.{ℕ, zero, suc, _+_, _-_, _*_, _≤_, _<_}
-use native.Mathlib.Nat.{le-of-suc-le-suc, not-suc-le-zero, mul-le-mul-right}
+use native.Mathlib.Nat.{le-of-suc-le-suc, not-suc-le-zero, mul-le-mul-right, sub-zero, add-zero}
 use native.Mathlib.Numerals.{add-one}
 use native.Mathlib.Decide.{decLt}
 use native.Mathlib.Omega.{arith}
@@ -14,7 +14,7 @@ use lib.Seq.{drop-cons}
 use borrow.Author.Tests.{lt-ltb, le-leb, eq-eqb, eqb-true, leb-true, ltb-true}
 use Rattle.parts.specs.Table.{Limits}
 use Rattle.parts.specs.Columns.{Column, run, runs, columnsFrom, runColumns, columnsOf, total}
-use Rattle.parts.specs.Address.{address, addressIn, names, numberIn}
+use Rattle.parts.specs.Address.{address, addressIn, numberIn}
 use Rattle.parts.specs.Lookup.{address-here, address-later, number-here, number-later, names-frame, frame-names, fails}
 use Rattle.parts.specs.declared.device.Part.{Part}
 use Rattle.parts.specs.declared.frame.Run.{Run}
@@ -59,6 +59,15 @@ module _ (n b m k : ℕ) (rest : List Column) (i left : ℕ) where
   pub run-end : n ≤ i → after i ≡ rest
   unfolding columnsFrom
   run-end h = let s : n - i ≡ 0 = omega arith in rw s
+
+-- a number past the first j columns is looked for in those after them
+pub run-past : (n b m k : ℕ) (rest : List Column) (left j : ℕ) → j ≤ n → j * k ≤ left
+    → addressIn (columnsFrom n b m k ++ rest) left ≡ addressIn (columnsFrom (n - j) b (m + j) k ++ rest) (left - j * k)
+run-past n b m k rest left zero h l = let z : left - 0 * k ≡ left = omega arith in simp (z, sub-zero, add-zero)
+run-past n b m k rest left (suc j) h l =
+    let s : left - suc j * k ≡ left - j * k - k = omega arith in
+    let t : suc j ≡ j + 1 = omega arith in
+    rw (s, t) (run-past n b m k rest left j (omega arith) (omega arith) ∙ run-later n b m k rest j (left - j * k) (omega arith) (omega arith))
 
 -- ---- a frame of a run, and a frame that is not in it
 

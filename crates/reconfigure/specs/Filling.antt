@@ -3,12 +3,10 @@
 use mathlib.Core.Path.{_≡_, _∙_, refl, ap}
 use mathlib.Core.List.{List, [], _∷_}
 use mathlib.Core.Bool.{Bool, true}
-use Prim.Native.Nat.{ℕ, suc, _+_, _-_, _*_, _^_, _≤_, _<_}
-use native.Mathlib.Nat.{add-suc}
-use native.Mathlib.Numerals.{add-one}
+use Prim.Native.Nat.{ℕ, _+_, _-_, _*_, _^_, _≤_, _<_}
 use native.Mathlib.Omega.{arith}
 use lib.ListN.{length, take, set, length-set}
-use lib.Seq.{sets, take-set-lt}
+use lib.Seq.{take-set-lt}
 use borrow.Author.Tests.{le-leb, lt-leb, le-ltb}
 use Rattle.crc16.specs.Register.{feed, fedWords, checkWord}
 use Rattle.crc16.specs.CheckWord.{check-word-passes, check-word-small}
@@ -25,12 +23,11 @@ use Rattle.config.specs.declared.Current.{Current}
 use Rattle.config.specs.declared.Current.the-variants as Current
 use Rattle.config.specs.declared.Phase.the-variants as Phase
 use Rattle.config.specs.declared.Event.the-variants as Event
-use Rattle.device.specs.declared.Device.{Device}
 use Rattle.loader.specs.Memory.{buffered, storeWithin, stored}
 use Rattle.loader.specs.Words.{takesWords}
 use Rattle.loader.specs.Fill.{lastOf, fills}
 use Rattle.reconfigure.specs.Writes.{passed}
-use Rattle.reconfigure.specs.State.{State, stands, waiting, moved, word-goes, Leads, leads-on}
+use Rattle.reconfigure.specs.State.{State, stands, waiting, moved, word-goes, Leads}
 
 -- in an FDRI packet, with words left and words of the frame filled
 abbrev pub filling : ℕ → ℕ → ℕ → ℕ → ℕ → Current → Bool → List ℕ → State

@@ -1,17 +1,17 @@
 -- Where an FDRI packet leads, with its two headers and its auto CRC word: frames stored one after the other, a last one in hand.
 -- By induction over the frames that are stored; each stands at the frame after the one before it.
-use mathlib.Core.Path.{_≡_, _∙_, refl, sym, ap}
+use mathlib.Core.Path.{_≡_, _∙_, refl, ap}
 use mathlib.Core.List.{List, [], _∷_, _++_}
 use mathlib.Core.Bool.{Bool, true}
 use Prim.Native.Nat.{ℕ, suc, _+_, _*_, _%_, _^_, _≤_, _<_}
 use native.Mathlib.Nat.{suc-mul, mul-le-mul, mul-mod-left}
 use native.Mathlib.Omega.{arith}
 use lib.ListN.{length, length-append}
-use borrow.Author.Tests.{ne-eqb, eq-eqb, lt-ltb}
+use borrow.Author.Tests.{ne-eqb, lt-ltb}
 use Rattle.crc16.specs.Register.{fedWords, fed-append}
 use Rattle.parts.specs.Device.{lengthAt, countAt}
 use Rattle.parts.specs.Figures.{length-fits, count-fits}
-use Rattle.parts.specs.Memory.{bytesOf, placed}
+use Rattle.parts.specs.Memory.{placed}
 use Rattle.parts.specs.Bytes.{AreWords, AreBytes}
 use Rattle.parts.specs.Placing.{frame-end, placed-length}
 use Rattle.registers.specs.Addresses.{addressOf, register-address}
@@ -25,7 +25,6 @@ use Rattle.config.specs.declared.Current.{Current}
 use Rattle.config.specs.declared.Current.the-variants as Current
 use Rattle.config.specs.declared.Phase.the-variants as Phase
 use Rattle.config.specs.declared.Event.the-variants as Event
-use Rattle.device.specs.declared.Device.{Device}
 use Rattle.layout.specs.Accepted.{Sized}
 use Rattle.layout.specs.ByteFrames.{AllBytes}
 use Rattle.layout.specs.Machine.{written}

@@ -1,7 +1,7 @@
 -- Where the frames of an FDRI packet lead: each but the last is stored, at frames that follow one another, and the last is in hand.
 -- A frame by induction over its words, whatever its last word does; then the frames by induction.
-use mathlib.Core.Path.{_≡_, _∙_, refl, sym, ap}
-use mathlib.Core.List.{List, [], _∷_, _++_}
+use mathlib.Core.Path.{_≡_, refl}
+use mathlib.Core.List.{List, [], _∷_}
 use mathlib.Core.Bool.{Bool, true}
 use Prim.Native.Nat.{ℕ, suc, _+_, _-_, _*_, _^_, _≤_, _<_}
 use native.Mathlib.Numerals.{add-one}

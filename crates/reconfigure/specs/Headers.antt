@@ -2,13 +2,11 @@
 -- The fields of a header are the digits of the sum that it is.
 use mathlib.Core.Path.{_≡_, _∙_, refl, ap}
 use mathlib.Core.List.{List, [], _∷_}
-use mathlib.Core.Bool.{true, false}
-use Prim.Native.Nat.{ℕ, _+_, _*_, _/_, _%_, _^_, _<_}
+use mathlib.Core.Bool.{false}
+use Prim.Native.Nat.{ℕ, _^_, _<_}
 use native.Mathlib.Omega.{arith}
-use lib.Dec.{eqb}
-use borrow.Author.Tests.{eq-eqb, ne-eqb}
-use Rattle.parts.specs.Device.{lengthAt}
-use Rattle.registers.specs.Addresses.{addressOf, isFdri, isMfwr, register-address, address-small}
+use borrow.Author.Tests.{ne-eqb}
+use Rattle.registers.specs.Addresses.{addressOf, isFdri, isMfwr, register-address, address-bound}
 use Rattle.registers.specs.declared.Register.{Register}
 use Rattle.registers.specs.declared.Open.{Open}
 use Rattle.registers.specs.declared.Open.the-variants as Open
@@ -31,12 +29,12 @@ use Rattle.reconfigure.specs.Goes.{Goes, goes-on, goes-word}
 -- a type 1 write header
 module _ (r : Register) (n : ℕ) (small : n < 2 ^ 11) where
   pub header-fits : header1 r n < 2 ^ 32
-  header-fits = omega (arith, address-small r)
+  header-fits = omega (arith, address-bound r)
 
   pub header-one : (o : Open) → packet o (header1 r n) ≡ Packet.Write (addressOf r) n
   unfolding packet type1
   header-one o =
-      let a = address-small r in
+      let a = address-bound r in
       let w = header1 r n in
       let kind : typeOf w ≡ 1 = omega (arith, a) in
       let act : operation w ≡ 2 = omega (arith, a) in

@@ -9,3 +9,7 @@ pub mod FrameData
 pub mod Steps
 pub mod Sync
 pub mod Whole
+pub mod Demand3
+pub mod Reconfigured
+pub mod Promise
+pub mod Corollaries

@@ -1,7 +1,7 @@
 -- Where two zero words to MFWR lead: the frame in hand stands at the current frame, and the state is as it was but for the CRC.
 -- Word by word: the header begins the data, the first word is only fed, the second stores.
-use mathlib.Core.Path.{_≡_, _∙_, refl, ap}
-use mathlib.Core.List.{List, [], _∷_}
+use mathlib.Core.Path.{_≡_, refl, ap}
+use mathlib.Core.List.{List}
 use mathlib.Core.Bool.{true}
 use Prim.Native.Nat.{ℕ, _+_, _*_, _≤_}
 use native.Mathlib.Omega.{arith}
@@ -22,11 +22,10 @@ use Rattle.config.specs.declared.Current.{Current}
 use Rattle.config.specs.declared.Current.the-variants as Current
 use Rattle.config.specs.declared.Phase.the-variants as Phase
 use Rattle.config.specs.declared.Event.the-variants as Event
-use Rattle.device.specs.declared.Device.{Device}
 use Rattle.stream.specs.Packets.{Packet, header1, crcOf, packetWords}
 use Rattle.loader.specs.Memory.{buffered, storeWithin, stored}
 use Rattle.loader.specs.Words.{takesWords}
-use Rattle.reconfigure.specs.Goes.{Goes, goes-on, goes-word}
+use Rattle.reconfigure.specs.Goes.{goes-on, goes-word}
 use Rattle.reconfigure.specs.Headers.{header-fits, header-one}
 use Rattle.reconfigure.specs.State.{State, waiting, moved, word-goes, Leads}
 

@@ -1,6 +1,6 @@
 -- Where the packets of a step lead, and those of a list of steps: the memory is what the steps make of it.
 -- Packet by packet; targets and steps by induction.
-use mathlib.Core.Path.{_≡_, _∙_, refl, sym, ap, subst}
+use mathlib.Core.Path.{_≡_, _∙_, refl, ap, subst}
 use mathlib.Core.List.{List, [], _∷_, _++_}
 use mathlib.Core.Bool.{Bool, true}
 use Prim.Native.Nat.{ℕ, zero, suc, _+_, _*_, _^_, _≤_, _<_}
@@ -8,18 +8,17 @@ use native.Mathlib.Omega.{arith}
 use lib.ListN.{length, replicate, length-replicate}
 use Rattle.parts.specs.Device.{lengthAt, countAt}
 use Rattle.parts.specs.Figures.{figures}
-use Rattle.parts.specs.Memory.{bytesOf, placed}
+use Rattle.parts.specs.Memory.{placed}
 use Rattle.parts.specs.Bytes.{AreWords, AreBytes}
 use Rattle.parts.specs.Placing.{frame-end, placed-length}
 use Rattle.parts.specs.Address.{frameAddress, addressTold}
 use Rattle.parts.specs.Frames.{number-address-number, address-fits, has-address}
-use Rattle.registers.specs.declared.Register.the-variants as Register
 use Rattle.config.specs.Part.{currentOf, named}
 use Rattle.config.specs.declared.Current.{Current}
 use Rattle.config.specs.declared.Current.the-variants as Current
 use Rattle.layout.specs.Step.{Step, FrameWrite, MultiFrameWrite}
 use Rattle.layout.specs.Accepted.{FitsWrite, FitsMulti, Fits, AllFit, Targets}
-use Rattle.layout.specs.ByteFrames.{StepBytes, StepsBytes}
+use Rattle.layout.specs.ByteFrames.{ByteStep, ByteSteps}
 use Rattle.layout.specs.Machine.{written, spread, done, allDone}
 use Rattle.layout.specs.Kept.{done-keeps}
 use Rattle.stream.specs.Packets.{Packet, crcOf, packetWords, packetsWords}
@@ -136,7 +135,7 @@ module _ (d : ℕ) (known : d ≤ 7) (own : ℕ → Bool) where
   positive = figures d known .length-positive
 
   module _ (v k : ℕ) (c : Current) (b : Bool) (hand m : List ℕ) (full : length hand ≡ lengthAt d) (room : length m ≡ 4 * lengthAt d * countAt d) where
-    write-reached : (n : ℕ) (fs : List (List ℕ)) → FitsWrite (lengthAt d) (countAt d) own n fs → StepBytes (FrameWrite n fs)
+    write-reached : (n : ℕ) (fs : List (List ℕ)) → FitsWrite (lengthAt d) (countAt d) own n fs → ByteStep (FrameWrite n fs)
         → Reached d (crcAfter v (stepPackets d (FrameWrite n fs))) (waiting d v k c b hand) m (packetsWords v (stepPackets d (FrameWrite n fs))) (written (lengthAt d) n fs m)
     unfolding stepPackets crcAfter crcOf
     write-reached n fs fit bytes =
@@ -175,7 +174,7 @@ module _ (d : ℕ) (known : d ≤ 7) (own : ℕ → Bool) where
               (spread-lead d known x bytes (fit .size) own t ts 0 c m (fit .targets) room));
         }
 
-    step-reached : (s : Step) → Fits (lengthAt d) (countAt d) own s → StepBytes s
+    step-reached : (s : Step) → Fits (lengthAt d) (countAt d) own s → ByteStep s
         → Reached d (crcAfter v (stepPackets d s)) (waiting d v k c b hand) m (packetsWords v (stepPackets d s)) (done (lengthAt d) s m)
     unfolding done
     step-reached (FrameWrite n fs) fit bytes = write-reached n fs fit bytes
@@ -195,7 +194,7 @@ module _ (d : ℕ) (known : d ≤ 7) (own : ℕ → Bool) where
       (record { cmd = others .cmd; current = others .current; valid = others .valid; hand = others .hand; full = others .full; leads = leads-on (first .leads) (others .leads) })
 
   -- 01: "Each step works on what the last one left"
-  pub steps-reached : (ss : List Step) (v k : ℕ) (c : Current) (b : Bool) (hand m : List ℕ) → AllFit (lengthAt d) (countAt d) own ss → StepsBytes ss
+  pub steps-reached : (ss : List Step) (v k : ℕ) (c : Current) (b : Bool) (hand m : List ℕ) → AllFit (lengthAt d) (countAt d) own ss → ByteSteps ss
       → length hand ≡ lengthAt d → length m ≡ 4 * lengthAt d * countAt d
       → Reached d (crcAfter v (stepsPackets d ss)) (waiting d v k c b hand) m (packetsWords v (stepsPackets d ss)) (allDone (lengthAt d) ss m)
   unfolding stepsPackets crcAfter allDone

@@ -2,9 +2,8 @@
 -- Byte by byte: four bytes FF leave nothing of the window, and then the sync word's four bytes are the last four.
 use mathlib.Core.Path.{_≡_, _∙_, refl, ap}
 use mathlib.Core.List.{List, [], _∷_}
-use mathlib.Core.Bool.{false, _&&_, and-false}
+use mathlib.Core.Bool.{and-false}
 use Prim.Native.Nat.{ℕ}
-use lib.Dec.{eqb}
 use native.Mathlib.Omega.{arith}
 use Rattle.parts.specs.Memory.{bytesOf}
 use Rattle.registers.specs.declared.Open.the-variants as Open
@@ -15,10 +14,9 @@ use Rattle.config.specs.declared.Bytes.the-variants as Bytes
 use Rattle.config.specs.declared.Control.{Control}
 use Rattle.config.specs.declared.Phase.{Phase}
 use Rattle.config.specs.declared.Phase.the-variants as Phase
-use Rattle.device.specs.declared.Device.{Device}
 use Rattle.loader.specs.Memory.{buffered, stored}
-use Rattle.loader.specs.Run.{Ran, ran, after, isStopped, run}
-use Rattle.loader.specs.Pieces.{byte-run, after-after}
+use Rattle.loader.specs.Run.{ran, after, isStopped, run}
+use Rattle.loader.specs.Pieces.{byte-run}
 use Rattle.loader.specs.Fill.{device}
 use Rattle.reconfigure.specs.Goes.{Goes, goes-on}
 

@@ -1,15 +1,14 @@
 -- A whole stream: from any record that hunts, the load takes all of it, the memory is what the steps make of it, and the record hunts.
 -- The sync word, the three packets that open a stream, the steps, and the two that end it.
 use mathlib.Core.Path.{_≡_, _∙_, refl, sym, ap}
-use mathlib.Core.List.{List, [], _∷_, _++_, append-nil, append-assoc}
-use mathlib.Core.Bool.{Bool, true}
-use Prim.Native.Nat.{ℕ, _+_, _-_, _*_, _^_, _≤_, _<_}
+use mathlib.Core.List.{List, [], _++_, append-nil}
+use mathlib.Core.Bool.{Bool}
+use Prim.Native.Nat.{ℕ, _+_, _-_, _*_, _≤_}
 use native.Mathlib.Nat.{add-zero}
 use native.Mathlib.Omega.{arith}
 use lib.ListN.{length, take}
 use lib.Seq.{length-take-le}
 use borrow.Author.Tests.{eq-eqb}
-use Rattle.crc16.specs.Register.{feed}
 use Rattle.parts.specs.Device.{idcodeAt, lengthAt, countAt}
 use Rattle.parts.specs.Figures.{figures, length-fits, idcode-fits}
 use Rattle.parts.specs.Memory.{bytesOf}
@@ -31,26 +30,22 @@ use Rattle.config.specs.declared.Event.the-variants as Event
 use Rattle.device.specs.declared.Device.{Device}
 use Rattle.layout.specs.Step.{Step}
 use Rattle.layout.specs.Accepted.{AllFit}
-use Rattle.layout.specs.ByteFrames.{StepsBytes}
+use Rattle.layout.specs.ByteFrames.{ByteSteps}
 use Rattle.layout.specs.Machine.{allDone}
-use Rattle.stream.specs.Packets.{Packet, crcOf, packetWords, packetsWords}
-use Rattle.stream.specs.Stream.{stepsPackets, ending, streamPackets, wordsOf, stream}
+use Rattle.stream.specs.Packets.{crcOf, packetWords, packetsWords}
+use Rattle.stream.specs.Stream.{stepsPackets, heading, ending, streamPackets, wordsOf}
 use Rattle.stream.specs.After.{crcAfter, words-append}
 use Rattle.loader.specs.Memory.{buffered, stored}
-use Rattle.loader.specs.Run.{Ran, ran, run}
+use Rattle.loader.specs.Run.{ran, run}
 use Rattle.loader.specs.Fill.{device}
 use Rattle.reconfigure.specs.Goes.{Goes, goes-none, goes-on}
 use Rattle.reconfigure.specs.Headers.{write-goes}
-use Rattle.reconfigure.specs.State.{State, view, waiting, Leads}
+use Rattle.reconfigure.specs.State.{State, view, waiting}
 use Rattle.reconfigure.specs.Writes.{command-word, check-leads}
 use Rattle.reconfigure.specs.Steps.{steps-reached}
 use Rattle.reconfigure.specs.Sync.{hunt-ends}
 
 -- ---- the three packets that open a stream
-
--- RCRC, FLR and IDCODE
-abbrev opening : ℕ → List Packet
-opening d = Packet.Command 7 ∷ Packet.Write Register.Flr (lengthAt d - 1) ∷ Packet.Write Register.Idcode (idcodeAt d) ∷ []
 
 -- the control state after each
 abbrev reset : Control → Control
@@ -78,9 +73,9 @@ module _ (d : ℕ) (known : d ≤ 7) (c : Control) (f m : List ℕ) (at : c .dev
   abbrev opened : Control
   opened = identified (idcodeAt d) (sized (lengthAt d - 1) (reset c))
 
-  opening-goes : Goes (device (Phase.Header Open.Closed) c f) m (packetsWords 0 (opening d)) (device (Phase.Header Open.Closed) opened f) m
+  heading-goes : Goes (device (Phase.Header Open.Closed) c f) m (packetsWords 0 (heading d)) (device (Phase.Header Open.Closed) opened f) m
   unfolding packetsWords packetWords buffered stored addressOf
-  opening-goes =
+  heading-goes =
       let some = figures d known .length-positive in
       goes-on (write-goes (device (Phase.Header Open.Closed) c f) m Register.Cmd 7 _ (refl, refl) refl empty (omega arith) (reset-word c))
       (goes-on (write-goes (device (Phase.Header Open.Closed) (reset c) f) m Register.Flr (lengthAt d - 1) _ (refl, refl) refl empty
@@ -88,10 +83,10 @@ module _ (d : ℕ) (known : d ≤ 7) (c : Control) (f m : List ℕ) (at : c .dev
       (goes-on (write-goes (device (Phase.Header Open.Closed) (sized (lengthAt d - 1) (reset c)) f) m Register.Idcode (idcodeAt d) _ (refl, refl) refl empty
       (omega (arith, idcode-fits d)) (identified-word (sized (lengthAt d - 1) (reset c)) (idcodeAt d) (ap idcodeAt (sym at)))) goes-none))
 
-  opening-seen : length f ≡ 213
-      → view (device (Phase.Header Open.Closed) opened f) ≡ waiting d (crcAfter 0 (opening d)) 7 (c .current) (c .flags .«buffer_valid») (take (lengthAt d) f)
+  heading-seen : length f ≡ 213
+      → view (device (Phase.Header Open.Closed) opened f) ≡ waiting d (crcAfter 0 (heading d)) 7 (c .current) (c .flags .«buffer_valid») (take (lengthAt d) f)
   unfolding crcAfter crcOf hold fedCrc addressOf
-  opening-seen full = rw (at, empty, full)
+  heading-seen full = rw (at, empty, full)
 
 -- ---- the two that end it
 
@@ -125,21 +120,21 @@ ending-goes d v k n b hand m e h =
 
 -- ---- the whole
 
-module _ (d : ℕ) (known : d ≤ 7) (own : ℕ → Bool) (ss : List Step) (fits : AllFit (lengthAt d) (countAt d) own ss) (bytes : StepsBytes ss) where
+module _ (d : ℕ) (known : d ≤ 7) (own : ℕ → Bool) (ss : List Step) (fits : AllFit (lengthAt d) (countAt d) own ss) (bytes : ByteSteps ss) where
   -- the packets after the sync word
   packets-go : (c : Control) (f m : List ℕ) → c .device ≡ d → c .partial ≡ Bytes.Zero → length f ≡ 213 → length m ≡ 4 * lengthAt d * countAt d
       → Ended (device (Phase.Header Open.Closed) c f) m (packetsWords 0 (streamPackets d ss)) (allDone (lengthAt d) ss m)
   packets-go c f m at empty full room =
-      let v₁ = crcAfter 0 (opening d) in
+      let v₁ = crcAfter 0 (heading d) in
       let v₂ = crcAfter v₁ (stepsPackets d ss) in
       let hand = length-take-le (lengthAt d) f (omega (arith, length-fits d)) in
       let steps = steps-reached d known own ss v₁ 7 (c .current) (c .flags .«buffer_valid») (take (lengthAt d) f) m fits bytes hand room in
-      let done = steps .leads .from (device (Phase.Header Open.Closed) (opened d known c f m at empty) f) (opening-seen d known c f m at empty full) in
+      let done = steps .leads .from (device (Phase.Header Open.Closed) (opened d known c f m at empty) f) (heading-seen d known c f m at empty full) in
       let last = ending-goes d v₂ (steps .cmd) (steps .current) (steps .valid) (steps .hand) (allDone (lengthAt d) ss m) (done .next) (done .seen) in
-      rw (words-append 0 (opening d) (stepsPackets d ss ++ ending), words-append v₁ (stepsPackets d ss) ending)
+      rw (words-append 0 (heading d) (stepsPackets d ss ++ ending), words-append v₁ (stepsPackets d ss) ending)
       (record {
         next = last .next;
-        goes = goes-on (opening-goes d known c f m at empty) (goes-on (done .goes) (last .goes));
+        goes = goes-on (heading-goes d known c f m at empty) (goes-on (done .goes) (last .goes));
         hunts = last .hunts;
         empty = last .empty;
       })

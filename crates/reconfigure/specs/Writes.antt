@@ -2,14 +2,12 @@
 -- By what the control machine makes of the word; WCFG and MFWR act on nothing, also at a FAR write.
 use mathlib.Core.Path.{_≡_, _∙_, refl, sym, ap, subst}
 use mathlib.Core.List.{List}
-use mathlib.Core.Bool.{Bool, false}
+use mathlib.Core.Bool.{Bool}
 use Prim.Native.Nat.{ℕ, _^_, _≤_, _<_}
 use native.Mathlib.Omega.{arith}
-use lib.Dec.{eqb}
 use borrow.Author.Tests.{le-ltb}
 use Rattle.crc16.specs.Register.{feed, checkWord}
 use Rattle.crc16.specs.CheckWord.{check-word-passes, check-word-small}
-use Rattle.parts.specs.Device.{lengthAt, countAt}
 use Rattle.registers.specs.Addresses.{addressOf}
 use Rattle.registers.specs.declared.Register.the-variants as Register
 use Rattle.registers.specs.declared.Open.the-variants as Open

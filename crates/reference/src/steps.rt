@@ -16,15 +16,16 @@ ghost use Rattle.parts.specs.Device.{lengthAt, countAt, memoryAt};
 ghost use Rattle.layout.specs.Range.{owns};
 ghost use Rattle.layout.specs.Reader.{stepsAt};
 ghost use Rattle.layout.specs.Layout.{layoutRead};
-ghost use Rattle.layout.specs.Machine.{madeOf, machine};
+ghost use Rattle.layout.specs.Machine.{allDone, madeOf, machine};
 ghost use Rattle.layout.specs.Accepting.{isRead};
-ghost use Rattle.reference.specs.List.{nextOf, stepMade, StepRoom};
+ghost use Rattle.layout.specs.First.{nextOf, stepOf, StepBytes};
+ghost use Rattle.reference.specs.List.{StepRoom};
 
 // Does one step that was read. Returns the offset after it.
 fn apply_step(l: usize, layout: &[u8], step: StepAt, memory: &mut [u8]) -> usize
-    requires { ⌜ (l ≤ 213) × StepRoom l (now layout) (length (now memory)) step ⌝ }
+    requires { ⌜ (l ≤ 213) × StepBytes l (now layout) step × StepRoom l (now layout) (length (now memory)) step ⌝ }
     ensures { λ r. ⌜ r ≡ nextOf step ⌝ }
-    ensures { λ _. ⌜ now (memory .exit) ≡ stepMade l (now (layout .entry)) step (now (memory .entry)) ⌝ }
+    ensures { λ _. ⌜ now (memory .exit) ≡ allDone l (stepOf l (now (layout .entry)) step) (now (memory .entry)) ⌝ }
 {
     match step {
         StepAt::Refused { cause: _, at: _ } => 0,

@@ -1,7 +1,7 @@
 -- The registers by address.
 -- Sources: 001, Table 1; 01, "Words and packets", the paragraph "Registers".
 use mathlib.Core.Path.{_≡_, refl}
-use Prim.Native.Nat.{ℕ, _<_}
+use Prim.Native.Nat.{ℕ, _≤_}
 use native.Mathlib.Omega.{arith}
 use mathlib.Core.Bool.{Bool, cond}
 use lib.Dec.{eqb}
@@ -65,17 +65,17 @@ register-address Register.Mfwr = refl
 register-address Register.Flr = refl
 register-address Register.Idcode = refl
 
--- an address has four bits
-pub address-small : (r : Register) → addressOf r < 16
+-- 001, Table 1: the addresses end at 14
+pub address-bound : (r : Register) → addressOf r ≤ 14
 unfolding addressOf
-address-small Register.Crc = omega arith
-address-small Register.Far = omega arith
-address-small Register.Fdri = omega arith
-address-small Register.Cmd = omega arith
-address-small Register.Ctl = omega arith
-address-small Register.Mask = omega arith
-address-small Register.Lout = omega arith
-address-small Register.Cor = omega arith
-address-small Register.Mfwr = omega arith
-address-small Register.Flr = omega arith
-address-small Register.Idcode = omega arith
+address-bound Register.Crc = omega arith
+address-bound Register.Far = omega arith
+address-bound Register.Fdri = omega arith
+address-bound Register.Cmd = omega arith
+address-bound Register.Ctl = omega arith
+address-bound Register.Mask = omega arith
+address-bound Register.Lout = omega arith
+address-bound Register.Cor = omega arith
+address-bound Register.Mfwr = omega arith
+address-bound Register.Flr = omega arith
+address-bound Register.Idcode = omega arith

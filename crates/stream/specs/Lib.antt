@@ -3,3 +3,4 @@ pub mod Stream
 pub mod After
 pub mod Length
 pub mod Words
+pub mod Frames

@@ -44,13 +44,17 @@ unfoldable pub stepsPackets : ℕ → List Step → List Packet
 stepsPackets d [] = []
 stepsPackets d (s ∷ ss) = stepPackets d s ++ stepsPackets d ss
 
+-- "CMD RCRC, FLR, IDCODE"
+abbrev pub heading : ℕ → List Packet
+heading d = Packet.Command 7 ∷ Packet.Write Register.Flr (lengthAt d - 1) ∷ Packet.Write Register.Idcode (idcodeAt d) ∷ []
+
 -- "a CRC write; CMD DESYNC"
 abbrev pub ending : List Packet
 ending = Packet.Check ∷ Packet.Command 13 ∷ []
 
--- "CMD RCRC, FLR, IDCODE; the steps;"
+-- "the steps" between the two
 abbrev pub streamPackets : ℕ → List Step → List Packet
-streamPackets d ss = Packet.Command 7 ∷ Packet.Write Register.Flr (lengthAt d - 1) ∷ Packet.Write Register.Idcode (idcodeAt d) ∷ stepsPackets d ss ++ ending
+streamPackets d ss = heading d ++ stepsPackets d ss ++ ending
 
 -- "FFFFFFFF, sync"; RCRC comes first, so that the CRC begins at zero
 unfoldable pub wordsOf : ℕ → List Step → List ℕ

@@ -1,13 +1,13 @@
 -- Words of bytes and bytes of words: each gives the other back, and a frame of bytes is a frame of words.
 -- By induction over the words, four bytes at a time.
-use mathlib.Core.Path.{_≡_, _∙_, refl, ap}
-use mathlib.Core.List.{List, [], _∷_, _++_}
+use mathlib.Core.Path.{_≡_, refl, ap}
+use mathlib.Core.List.{List, [], _∷_}
 use Prim.Native.Nat.{ℕ, zero, suc, _+_, _*_, _/_, _%_, _^_, _<_}
 use native.Mathlib.Omega.{arith}
-use lib.ListN.{length, getD, drop, length-drop}
+use lib.ListN.{length, drop}
 use Rattle.parts.specs.Memory.{bytesOf}
-use Rattle.parts.specs.Bytes.{AreWords, AreBytes, words-join, byte-at, bytes-drop}
-use Rattle.stream.specs.Stream.{wordsFrom, framesWords}
+use Rattle.parts.specs.Bytes.{AreWords, AreBytes, byte-at, bytes-drop}
+use Rattle.stream.specs.Stream.{wordsFrom}
 
 -- a word of four bytes has 32 bits
 four-small : (a b c d : ℕ) → a < 2 ^ 8 → b < 2 ^ 8 → c < 2 ^ 8 → d < 2 ^ 8 → a * 2 ^ 24 + b * 2 ^ 16 + c * 2 ^ 8 + d < 2 ^ 32

@@ -1,7 +1,7 @@
 -- `load50::load_input` is safe and ends: the count of pieces falls, and the bytes taken fit.
 -- The invariant: each piece is at most the buffer, so the bytes taken are at most the pieces read times its length.
 use mathlib.Core.Path.{_≡_, _∙_, sym}
-use Prim.Native.Nat.{ℕ, _+_, _-_, _*_, _≤_}
+use Prim.Native.Nat.{_+_, _-_, _*_, _≤_}
 use native.Mathlib.Nat.{le-trans}
 use native.Mathlib.Omega.{arith}
 use lib.ListN.{length, length-take}

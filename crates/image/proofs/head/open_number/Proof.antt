@@ -1,6 +1,6 @@
 -- `image::head::open_number` meets its contract: one more than the address that `address` gives.
 -- The sum fits, since an address is at most 14.
-use Rattle.image.specs.Numbers.{address-bound}
+use Rattle.registers.specs.Addresses.{address-bound}
 use borrow.Author.Needs.{needs}
 use native.Mathlib.Omega.{arith}
 use Rattle.image.proofs.head.open_number.Statement.{statement}

@@ -1,11 +1,10 @@
 -- `parts::device::memory_length` meets its contract: the figure of the part that the table has.
 -- By the law of a figure in each of the two cases; the product fits, since the table's limits bound it.
-use mathlib.Core.Path.{_≡_, _∙_, sym, ap}
-use Prim.Native.Nat.{_*_}
+use mathlib.Core.Path.{_∙_, sym, ap}
 use native.Mathlib.Omega.{arith}
 use borrow.Author.Needs.{needs}
-use Rattle.parts.specs.Device.{memoryLength, frameLength, frameCount, figure-known, figure-unknown}
-use Rattle.parts.specs.Table.{Limits, known-limits, length-limit, memory-limit}
+use Rattle.parts.specs.Device.{memoryLength, figure-known, figure-unknown}
+use Rattle.parts.specs.Table.{known-limits, length-limit, memory-limit}
 use Rattle.parts.specs.declared.device.Figure.the-variants as Figure
 use Rattle.parts.proofs.device.memory_length.Statement.{statement}
 use Rattle.parts.proofs.device.memory_length.Tie as tie

@@ -1,7 +1,7 @@
 -- `parts::frame::address_in` meets its contract. The invariant goes by what is left: the runs not yet searched, for the number
 -- that is left, give what all columns give.
 use mathlib.Core.Path.{_≡_, _∙_, sym, ap}
-use Prim.Native.Nat.{ℕ, _+_, _-_, _≤_, _<_}
+use Prim.Native.Nat.{_-_, _≤_}
 use native.Mathlib.Omega.{arith}
 use lib.ListN.{drop}
 use borrow.Author.Needs.{needs}

@@ -1,7 +1,7 @@
 -- `parts::frame::number_in` meets its contract. The invariant goes by what is left: the runs not yet passed, with the number of
 -- their first frame, give what all columns give, and the frames passed and left are F, so that no sum wraps.
 use mathlib.Core.Path.{_≡_, _∙_, refl, sym, ap}
-use Prim.Native.Nat.{ℕ, _+_, _-_, _*_, _≤_, _<_}
+use Prim.Native.Nat.{_+_, _-_, _*_, _≤_, _<_}
 use native.Mathlib.Omega.{arith}
 use lib.ListN.{drop}
 use borrow.Author.Needs.{needs}

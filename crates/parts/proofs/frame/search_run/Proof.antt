@@ -1,29 +1,37 @@
 -- `parts::frame::search_run` meets its contract. The invariant goes by what is left: the columns not yet passed, searched for
--- the number that is left, give what the whole run gives, whatever columns follow.
+-- the number that is left, give what the whole run gives, whatever columns follow. It holds after the leap, by `run-past`.
 use mathlib.Core.Path.{_≡_, _∙_, sym, ap}
 use mathlib.Core.List.{List, _++_}
-use Prim.Native.Nat.{ℕ, _+_, _-_, _≤_, _<_}
-use native.Mathlib.Nat.{sub-zero, add-zero}
+use Prim.Native.Nat.{_+_, _-_, _≤_}
 use native.Mathlib.Omega.{arith}
 use borrow.Author.Needs.{needs}
 use Rattle.parts.specs.Columns.{Column, columnsFrom}
 use Rattle.parts.specs.Address.{addressIn}
 use Rattle.parts.specs.declared.frame.AddressAnswer.the-variants as AddressAnswer
-use Rattle.parts.specs.Runs.{resumed, run-here, run-later, run-end}
+use Rattle.parts.specs.Runs.{resumed, run-here, run-later, run-end, run-past}
 use Rattle.parts.proofs.frame.search_run.Statement.{statement}
 use Rattle.parts.proofs.frame.search_run.Tie as tie
 
 abbrev Inv-loop : tie.InvT-loop
-Inv-loop run number left₀ i₀ left i =
+Inv-loop run number i₀ left₀ i left =
     (i ≤ run .columns) × (left ≤ number)
     × ((rest : List Column) → addressIn (columnsFrom (run .columns - i) (run .block) (run .major + i) (run .minors) ++ rest) left
     ≡ addressIn (columnsFrom (run .columns) (run .block) (run .major) (run .minors) ++ rest) number)
 
 abbrev μ-loop : tie.MeasureT-loop
-μ-loop run number left₀ i₀ left i = run .columns - i
+μ-loop run number i₀ left₀ i left = run .columns - i
+
+leap-requires : tie.Need-leap-requires Inv-loop μ-loop
+leap-requires c κs = search needs
+
+mul-left : tie.Need-mul-left Inv-loop μ-loop
+mul-left c = omega arith
+
+sub-left : tie.Need-sub-left Inv-loop μ-loop
+sub-left c = omega arith
 
 loop-holds : tie.Need-loop-holds Inv-loop μ-loop
-loop-holds c = (omega arith, omega arith, λ rest. simp (sub-zero, add-zero))
+loop-holds c = (omega arith, omega arith, λ rest. sym (run-past _ _ _ _ rest _ (c .before .leap .result) (omega arith) (omega arith)))
 
 add-address-of : tie.Need-add-address-of Inv-loop μ-loop
 add-address-of c = omega arith
@@ -60,6 +68,9 @@ search-run-spec =
     (tie.spec
     Inv-loop
     μ-loop
+    leap-requires
+    mul-left
+    sub-left
     loop-holds
     add-address-of
     address-of-requires

@@ -2,7 +2,6 @@
 -- the code stands, make what all of them make of the memory at first; and they can all be read.
 use mathlib.Core.Path.{_≡_, _∙_, refl, sym}
 use mathlib.Core.Bool.{true}
-use Prim.Native.Nat.{_-_}
 use native.Mathlib.Omega.{arith}
 use lib.ListN.{length}
 use borrow.Author.Needs.{needs}
@@ -13,6 +12,7 @@ use Rattle.layout.specs.Range.{owns}
 use Rattle.layout.specs.Reader.{stepsAt}
 use Rattle.layout.specs.Machine.{madeOf}
 use Rattle.layout.specs.Accepting.{isRead}
+use Rattle.layout.specs.First.{step-bytes}
 use Rattle.reference.specs.List.{none-done, step-made, step-roomy}
 use Rattle.reference.proofs.steps.apply_steps.Statement.{statement}
 use Rattle.reference.proofs.steps.apply_steps.Tie as tie
@@ -50,9 +50,11 @@ apply-step-requires c κs =
     let l = c .before .before .before .loop in
     let s = c .before .before .before .before .before .before .before .before in
     let d = s .args .device in
-    let room = step-roomy (lengthAt d) (countAt d) (owns (s .args .range)) (now (s .args .layout)) (l .at) (length (l .memory)) _ (sym (c .before .read-step .ensures))
+    let e = sym (c .before .read-step .ensures) in
+    let bytes = step-bytes (lengthAt d) (countAt d) (owns (s .args .range)) (now (s .args .layout)) (l .at) _ e in
+    let room = step-roomy (lengthAt d) (countAt d) (owns (s .args .range)) (now (s .args .layout)) (l .at) (length (l .memory)) _ e
     (omega (arith, memory-size d, s .pre .1, l .inv .1)) in
-    rw (part-length (c .before .before .before .before)) (length-fits d, room)
+    rw (part-length (c .before .before .before .before)) (length-fits d, bytes, room)
 
 sub-left : tie.Need-sub-left Inv-loop μ-loop
 sub-left c = omega arith

@@ -1,0 +1,74 @@
+-- `compiler::packet::put_word` meets its contract: four stores in a row are the run of stores of the word's bytes.
+-- By computation, with the places counted by one; a word of 32 bits has no byte above its high one.
+use mathlib.Core.Path.{_≡_}
+use Prim.Native.Nat.{suc, _+_}
+use native.Mathlib.Omega.{arith}
+use lib.ListN.{length-set}
+use lib.Pow.{shr-mod}
+use Rattle.parts.specs.Memory.{bytesOf}
+use borrow.Author.Needs.{needs}
+use Rattle.compiler.proofs.packet.put_word.Statement.{statement}
+use Rattle.compiler.proofs.packet.put_word.Tie as tie
+
+cast-output : tie.Need-cast-output
+cast-output c = search needs
+
+slice-write-output : tie.Need-slice-write-output
+slice-write-output c = search needs
+
+cast-output-2 : tie.Need-cast-output-2
+cast-output-2 c = search needs
+
+add-output : tie.Need-add-output
+add-output c = search needs
+
+slice-write-output-2 : tie.Need-slice-write-output-2
+slice-write-output-2 c = simp length-set (omega arith)
+
+cast-output-3 : tie.Need-cast-output-3
+cast-output-3 c = search needs
+
+add-output-2 : tie.Need-add-output-2
+add-output-2 c = search needs
+
+slice-write-output-3 : tie.Need-slice-write-output-3
+slice-write-output-3 c = simp length-set (omega arith)
+
+cast-output-4 : tie.Need-cast-output-4
+cast-output-4 c = search needs
+
+add-output-3 : tie.Need-add-output-3
+add-output-3 c = search needs
+
+slice-write-output-4 : tie.Need-slice-write-output-4
+slice-write-output-4 c = simp length-set (omega arith)
+
+same-length : tie.Need-same-length
+same-length c = search needs
+
+returns : tie.Need-returns
+unfolding bytesOf
+returns c =
+    let a = c .args .at in
+    let e1 : a + 1 ≡ suc a = omega arith in
+    let e2 : a + 2 ≡ suc (suc a) = omega arith in
+    let e3 : a + 3 ≡ suc (suc (suc a)) = omega arith in
+    rw (e1, e2, e3, shr-mod 8 24 (c .fits .word .fits))
+
+pub put-word-spec : {M : Type 1} → statement M
+put-word-spec =
+    tie.close
+    (tie.spec
+    cast-output
+    slice-write-output
+    cast-output-2
+    add-output
+    slice-write-output-2
+    cast-output-3
+    add-output-2
+    slice-write-output-3
+    cast-output-4
+    add-output-3
+    slice-write-output-4
+    same-length
+    returns)

@@ -1,0 +1,49 @@
+-- A layout compiled into an output: the check's refusals, then 36, then the stream.
+-- Sources: 01, "Layouts": "Checks: 21, 37, then the layout from front to back, then 36"; "36 tells the length needed"; "No refusal
+-- touches the output; success answers 0 and the stream's length and touches only its bytes"; "The stream that is written".
+use Prim.Native.Nat.{ℕ}
+use mathlib.Core.List.{List, [], _++_}
+use mathlib.Core.Bool.{cond}
+use lib.Dec.{ltb}
+use lib.ListN.{length, drop}
+use Rattle.parts.specs.Device.{lengthAt, countAt}
+use Rattle.answers.specs.declared.layout.Verdict.{Verdict}
+use Rattle.answers.specs.declared.layout.Verdict.the-variants as Verdict
+use Rattle.layout.specs.Range.{owns}
+use Rattle.layout.specs.Step.{Step, Reading}
+use Rattle.layout.specs.Layout.{layoutRead, check}
+use Rattle.layout.specs.declared.FrameRange.{FrameRange}
+use Rattle.stream.specs.Stream.{stream}
+
+-- "A refused layout has no stream"
+unfoldable pub streamOf : ℕ → Reading (List Step) → List ℕ
+streamOf d (Reading.Read ss next) = stream d ss
+streamOf d (Reading.Refused c at) = []
+
+-- the stream of a layout that is read for a device and a range
+abbrev pub streamFor : ℕ → FrameRange → List ℕ → List ℕ
+streamFor d r b = streamOf d (layoutRead (lengthAt d) (countAt d) (owns r) b d)
+
+pub record Compiled : Type 0 where
+  pub verdict : Verdict
+  pub output : List ℕ
+
+abbrev pub compiles : Verdict → List ℕ → Compiled
+compiles v out = record { verdict = v; output = out }
+
+-- "touches only its bytes": the output's own follow those of the stream
+abbrev pub overwritten : List ℕ → List ℕ → List ℕ
+overwritten bytes out = bytes ++ drop (length bytes) out
+
+-- what a check's verdict leads to
+unfoldable pub compiledAfter : Verdict → ℕ → FrameRange → List ℕ → List ℕ → Compiled
+compiledAfter (Verdict.Accepted n) d r b out =
+    cond (ltb (length out) n) (compiles (Verdict.ShortOutput n) out) (compiles (Verdict.Accepted n) (overwritten (streamFor d r b) out))
+compiledAfter Verdict.UnknownDevice d r b out = compiles Verdict.UnknownDevice out
+compiledAfter Verdict.WrongRange d r b out = compiles Verdict.WrongRange out
+compiledAfter Verdict.WrongMemory d r b out = compiles Verdict.WrongMemory out
+compiledAfter (Verdict.ShortOutput n) d r b out = compiles (Verdict.ShortOutput n) out
+compiledAfter (Verdict.Refused c at) d r b out = compiles (Verdict.Refused c at) out
+
+abbrev pub compiled : ℕ → FrameRange → List ℕ → List ℕ → Compiled
+compiled d r b out = compiledAfter (check d r b) d r b out

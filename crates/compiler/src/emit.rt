@@ -1,0 +1,251 @@
+// The packets of steps, and the whole stream.
+use crate::frames::put_frames;
+use crate::packet::Pen;
+use crate::packet::put_check;
+use crate::packet::put_command;
+use crate::packet::put_multi;
+use crate::packet::put_word;
+use crate::packet::put_write;
+use layout::FrameRange;
+use layout::step::StepAt;
+use layout::step::read_step;
+use numbers::Number;
+use numbers::read_number;
+use parts::device::frame_length;
+use parts::device::idcode;
+use parts::device::value_of;
+use parts::frame::AddressAnswer;
+use parts::frame::frame_address;
+use registers::Register;
+ghost use mathlib.Core.Path.{_≡_};
+ghost use mathlib.Core.Bool.{true};
+ghost use mathlib.Core.List.{[], _∷_};
+ghost use Prim.Native.Nat.{_+_, _≤_, _<_};
+ghost use lib.ListN.{length};
+ghost use Rattle.crc16.specs.Nibbles.{entries};
+ghost use Rattle.parts.specs.Device.{lengthAt, countAt};
+ghost use Rattle.parts.specs.Address.{addressTold};
+ghost use Rattle.layout.specs.Range.{owns};
+ghost use Rattle.layout.specs.Step.{listed};
+ghost use Rattle.layout.specs.Reader.{stepsAt};
+ghost use Rattle.layout.specs.Layout.{layoutRead};
+ghost use Rattle.layout.specs.Targets.{numbersAt};
+ghost use Rattle.layout.specs.Accepting.{isRead};
+ghost use Rattle.layout.specs.First.{nextOf, stepOf, StepBytes};
+ghost use Rattle.stream.specs.Stream.{toFrame, further, spreadPackets, stepsPackets, heading};
+ghost use Rattle.compiler.specs.Compiled.{streamFor, overwritten};
+ghost use Rattle.compiler.specs.Whole.{synced};
+ghost use Rattle.compiler.specs.Writing.{Room, Written, penAt};
+ghost use Rattle.compiler.specs.Stepping.{StepCount};
+
+// The frame address that an answer tells, 0 where it is refused.
+fn address_told(answer: AddressAnswer) -> u32
+    ensures { λ r. ⌜ r ≡ addressTold answer ⌝ }
+{
+    match answer {
+        AddressAnswer::Address(address) => address,
+        AddressAnswer::UnknownDevice => 0,
+        AddressAnswer::OutsidePart => 0,
+    }
+}
+
+// Writes a frame's address to FAR.
+fn put_address(table: &[u16; 256], output: &mut [u8], pen: Pen, device: u32, frame: u32) -> Pen
+    requires { ⌜ (now table ≡ entries 256 0) × (pen .at + 8 ≤ length (now output)) ⌝ }
+    ensures { λ r. ⌜ Written (now (output .entry)) pen (toFrame device frame ∷ []) (now (output .exit)) r ⌝ }
+{
+    let answer = frame_address(device, frame);
+    let address = address_told(answer);
+    put_write(table, output, pen, Register::Far, address)
+}
+
+// Writes the frame in hand to each further target, read from an offset on.
+fn put_further(
+    table: &[u16; 256],
+    output: &mut [u8],
+    pen: Pen,
+    device: u32,
+    layout: &[u8],
+    count: u32,
+    start: usize,
+) -> Pen
+    requires { ⌜ (now table ≡ entries 256 0) × Room (now output) pen (further device (numbersAt (now layout) count start)) ⌝ }
+    ensures { λ r. ⌜ Written (now (output .entry)) pen (further device (numbersAt (now (layout .entry)) count start)) (now (output .exit)) r ⌝ }
+{
+    let mut last = pen;
+    let mut more: u32 = count;
+    let mut at: usize = start;
+    while 0 < more {
+        let target = read_number(layout, at);
+        match target {
+            Number::Refused(_) => {
+                return last;
+            }
+            Number::Value { value, next } => {
+                let aimed = put_address(table, output, last, device, value);
+                last = put_multi(table, output, aimed);
+                at = next;
+                more -= 1;
+            }
+        }
+    }
+    last
+}
+
+// Writes the frame in hand to each target, read from an offset on.
+fn put_spread(
+    table: &[u16; 256],
+    output: &mut [u8],
+    pen: Pen,
+    device: u32,
+    layout: &[u8],
+    count: u32,
+    targets: usize,
+) -> Pen
+    requires { ⌜ (now table ≡ entries 256 0) × (0 < count) × Room (now output) pen (spreadPackets device (numbersAt (now layout) count targets)) ⌝ }
+    ensures { λ r. ⌜ Written (now (output .entry)) pen (spreadPackets device (numbersAt (now (layout .entry)) count targets)) (now (output .exit)) r ⌝ }
+{
+    let first = read_number(layout, targets);
+    match first {
+        Number::Refused(_) => pen,
+        Number::Value { value, next } => {
+            let aimed = put_address(table, output, pen, device, value);
+            let told = put_command(table, output, aimed, 2);
+            let written = put_multi(table, output, told);
+            put_further(table, output, written, device, layout, count - 1, next)
+        }
+    }
+}
+
+// Writes one step that was read.
+fn put_step(
+    table: &[u16; 256],
+    output: &mut [u8],
+    pen: Pen,
+    device: u32,
+    layout: &[u8],
+    step: StepAt,
+) -> Pen
+    requires { ⌜ (now table ≡ entries 256 0) × StepBytes (lengthAt device) (now layout) step × StepCount (countAt device) step × Room (now output) pen (stepsPackets device (stepOf (lengthAt device) (now layout) step)) ⌝ }
+    ensures { λ r. ⌜ Written (now (output .entry)) pen (stepsPackets device (stepOf (lengthAt device) (now (layout .entry)) step)) (now (output .exit)) r ⌝ }
+{
+    let l = value_of(frame_length(device)) as usize;
+    match step {
+        StepAt::Refused { cause: _, at: _ } => pen,
+        StepAt::FrameWrite {
+            first,
+            count,
+            body,
+            next: _,
+        } => {
+            let begun = put_command(table, output, pen, 1);
+            let aimed = put_address(table, output, begun, device, first);
+            put_frames(table, output, aimed, layout, body, count as usize * l, l)
+        }
+        StepAt::MultiFrameWrite {
+            count,
+            body,
+            targets,
+            next: _,
+        } => {
+            let begun = put_command(table, output, pen, 1);
+            let held = put_frames(table, output, begun, layout, body, l, 0);
+            put_spread(table, output, held, device, layout, count, targets)
+        }
+    }
+}
+
+// The offset after a step.
+fn next_of(step: StepAt) -> usize
+    ensures { λ r. ⌜ r ≡ nextOf step ⌝ }
+{
+    match step {
+        StepAt::Refused { cause: _, at: _ } => 0,
+        StepAt::FrameWrite {
+            first: _,
+            count: _,
+            body: _,
+            next,
+        } => next,
+        StepAt::MultiFrameWrite {
+            count: _,
+            body: _,
+            targets: _,
+            next,
+        } => next,
+    }
+}
+
+// Writes the steps of a list that was read, from an offset on.
+fn put_steps(
+    table: &[u16; 256],
+    output: &mut [u8],
+    pen: Pen,
+    device: u32,
+    range: FrameRange,
+    layout: &[u8],
+    count: u32,
+    start: usize,
+) -> Pen
+    requires { ⌜ (now table ≡ entries 256 0) × (isRead (stepsAt (lengthAt device) (countAt device) (owns range) (now layout) count start) ≡ true) × Room (now output) pen (stepsPackets device (listed (stepsAt (lengthAt device) (countAt device) (owns range) (now layout) count start))) ⌝ }
+    ensures { λ r. ⌜ Written (now (output .entry)) pen (stepsPackets device (listed (stepsAt (lengthAt device) (countAt device) (owns range) (now (layout .entry)) count start))) (now (output .exit)) r ⌝ }
+{
+    let mut last = pen;
+    let mut left: u32 = count;
+    let mut at: usize = start;
+    while 0 < left {
+        let step = read_step(device, range, layout, at);
+        last = put_step(table, output, last, device, layout, step);
+        at = next_of(step);
+        left -= 1;
+    }
+    last
+}
+
+// Writes the steps of a layout that was accepted. Its edition and its device have one byte each.
+fn put_list(
+    table: &[u16; 256],
+    output: &mut [u8],
+    pen: Pen,
+    device: u32,
+    range: FrameRange,
+    layout: &[u8],
+) -> Pen
+    requires { ⌜ (now table ≡ entries 256 0) × (device ≤ 7) × (isRead (layoutRead (lengthAt device) (countAt device) (owns range) (now layout) device) ≡ true) × Room (now output) pen (stepsPackets device (listed (layoutRead (lengthAt device) (countAt device) (owns range) (now layout) device))) ⌝ }
+    ensures { λ r. ⌜ Written (now (output .entry)) pen (stepsPackets device (listed (layoutRead (lengthAt device) (countAt device) (owns range) (now (layout .entry)) device))) (now (output .exit)) r ⌝ }
+{
+    let count = read_number(layout, 2);
+    match count {
+        Number::Refused(_) => pen,
+        Number::Value { value, next } => {
+            put_steps(table, output, pen, device, range, layout, value, next)
+        }
+    }
+}
+
+// Writes what stands before the steps.
+fn put_heading(table: &[u16; 256], output: &mut [u8], device: u32) -> Pen
+    requires { ⌜ (now table ≡ entries 256 0) × (device ≤ 7) × (32 ≤ length (now output)) ⌝ }
+    ensures { λ r. ⌜ Written (synced (now (output .entry))) (penAt 8 0) (heading device) (now (output .exit)) r ⌝ }
+{
+    put_word(output, 0, 0xFFFFFFFF);
+    put_word(output, 4, 0xAA995566);
+    let pen = Pen { at: 8, crc: 0 };
+    let reset = put_command(table, output, pen, 7);
+    let length = value_of(frame_length(device));
+    let sized = put_write(table, output, reset, Register::Flr, length - 1);
+    let code = value_of(idcode(device));
+    put_write(table, output, sized, Register::Idcode, code)
+}
+
+// Writes the stream of a layout that was accepted.
+pub(crate) fn put_stream(device: u32, range: FrameRange, layout: &[u8], output: &mut [u8])
+    requires { ⌜ (device ≤ 7) × (isRead (layoutRead (lengthAt device) (countAt device) (owns range) (now layout) device) ≡ true) × (length (streamFor device range (now layout)) ≤ length (now output)) ⌝ }
+    ensures { λ _. ⌜ now (output .exit) ≡ overwritten (streamFor device range (now (layout .entry))) (now (output .entry)) ⌝ }
+{
+    let table = crc16::table();
+    let begun = put_heading(&table, output, device);
+    let done = put_list(&table, output, begun, device, range, layout);
+    let checked = put_check(output, done);
+    put_command(&table, output, checked, 13);
+}

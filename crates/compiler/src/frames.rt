@@ -1,0 +1,99 @@
+// Frame data into the output.
+use crate::packet::Pen;
+use crate::packet::put_fed;
+use crate::packet::put_word;
+ghost use mathlib.Core.Path.{_≡_};
+ghost use mathlib.Core.List.{[], _∷_, _++_};
+ghost use Prim.Native.Nat.{ℕ, _+_, _*_, _≤_, _<_};
+ghost use lib.ListN.{length, drop, replicate};
+ghost use Rattle.crc16.specs.Register.{fedWords};
+ghost use Rattle.crc16.specs.Nibbles.{entries};
+ghost use Rattle.stream.specs.Packets.{Packet};
+ghost use Rattle.stream.specs.Stream.{wordsFrom};
+ghost use Rattle.stream.specs.After.{crcAfter};
+ghost use Rattle.compiler.specs.Emitted.{putWords, emitted};
+ghost use Rattle.compiler.specs.Words.{wordAt};
+
+// The word at an offset of the layout, high byte first.
+fn word_at(layout: &[u8], i: usize) -> u32
+    requires { ⌜ i + 4 ≤ length (now layout) ⌝ }
+    ensures { λ r. ⌜ r ≡ wordAt (now (layout .entry)) i ⌝ }
+{
+    let a = layout[i] as u32;
+    let b = layout[i + 1] as u32;
+    let c = layout[i + 2] as u32;
+    let d = layout[i + 3] as u32;
+    a * 16777216 + b * 65536 + c * 256 + d
+}
+
+// Copies n words of the layout from an offset on and feeds them for FDRI.
+fn put_data(
+    table: &[u16; 256],
+    output: &mut [u8],
+    pen: Pen,
+    layout: &[u8],
+    from: usize,
+    n: usize,
+) -> Pen
+    requires { ⌜ (now table ≡ entries 256 0) × (pen .at + 4 * n ≤ length (now output)) × (from + 4 * n ≤ length (now layout)) ⌝ }
+    ensures { λ r. ⌜ r .at ≡ pen .at + 4 * n ⌝ }
+    ensures { λ r. ⌜ r .crc ≡ fedWords (pen .crc) 2 (wordsFrom n (drop from (now (layout .entry)))) ⌝ }
+    ensures { λ _. ⌜ now (output .exit) ≡ putWords (now (output .entry)) (pen .at) (wordsFrom n (drop from (now (layout .entry)))) ⌝ }
+{
+    let mut here = pen;
+    let mut i = from;
+    let mut left = n;
+    while 0 < left {
+        let word = word_at(layout, i);
+        here = put_fed(table, output, here, 2, word);
+        i += 4;
+        left -= 1;
+    }
+    here
+}
+
+// Writes n zero words and feeds them for FDRI.
+fn put_zeros(table: &[u16; 256], output: &mut [u8], pen: Pen, n: usize) -> Pen
+    requires { ⌜ (now table ≡ entries 256 0) × (pen .at + 4 * n ≤ length (now output)) ⌝ }
+    ensures { λ r. ⌜ r .at ≡ pen .at + 4 * n ⌝ }
+    ensures { λ r. ⌜ r .crc ≡ fedWords (pen .crc) 2 (replicate {A = ℕ} n 0) ⌝ }
+    ensures { λ _. ⌜ now (output .exit) ≡ putWords (now (output .entry)) (pen .at) (replicate {A = ℕ} n 0) ⌝ }
+{
+    let mut here = pen;
+    let mut left = n;
+    while 0 < left {
+        here = put_fed(table, output, here, 2, 0);
+        left -= 1;
+    }
+    here
+}
+
+// Writes n words of the layout and zero words after them to FDRI, with the auto CRC word.
+pub(crate) fn put_frames(
+    table: &[u16; 256],
+    output: &mut [u8],
+    pen: Pen,
+    layout: &[u8],
+    from: usize,
+    n: usize,
+    zeros: usize,
+) -> Pen
+    requires { ⌜ (now table ≡ entries 256 0) × (n + zeros < 134217728) × (pen .at + 4 * (3 + n + zeros) ≤ length (now output)) × (from + 4 * n ≤ length (now layout)) ⌝ }
+    ensures { λ r. ⌜ r .at ≡ pen .at + 4 * (3 + n + zeros) ⌝ }
+    ensures { λ r. ⌜ r .crc ≡ crcAfter (pen .crc) (Packet.FrameData (wordsFrom n (drop from (now (layout .entry))) ++ replicate {A = ℕ} zeros 0) ∷ []) ⌝ }
+    ensures { λ _. ⌜ now (output .exit) ≡ emitted (now (output .entry)) (pen .at) (pen .crc) (Packet.FrameData (wordsFrom n (drop from (now (layout .entry))) ++ replicate {A = ℕ} zeros 0) ∷ []) ⌝ }
+{
+    put_word(output, pen.at, 0x30004000);
+    put_word(output, pen.at + 4, 0x50000000 + (n + zeros) as u32);
+    let start = Pen {
+        at: pen.at + 8,
+        crc: pen.crc,
+    };
+    let copied = put_data(table, output, start, layout, from, n);
+    let padded = put_zeros(table, output, copied, zeros);
+    put_word(output, padded.at, crc16::check_word(padded.crc));
+    Pen {
+        at: padded.at + 4,
+        crc: 0,
+    }
+}

@@ -1,0 +1,119 @@
+// Words and packets into the output, with the CRC that runs along.
+use registers::Register;
+use registers::address_of;
+ghost use mathlib.Core.Path.{_≡_};
+ghost use mathlib.Core.List.{[], _∷_};
+ghost use Prim.Native.Nat.{_+_, _≤_};
+ghost use lib.ListN.{length};
+ghost use Rattle.crc16.specs.Register.{feed};
+ghost use Rattle.crc16.specs.Nibbles.{entries};
+ghost use Rattle.stream.specs.Packets.{Packet};
+ghost use Rattle.stream.specs.After.{crcAfter};
+ghost use Rattle.compiler.specs.Emitted.{putWords, emitted};
+
+// Where the next word goes, and the CRC so far.
+pub struct Pen {
+    pub at: usize,
+    pub crc: u32,
+}
+
+// Writes a word, high byte first.
+pub(crate) fn put_word(output: &mut [u8], at: usize, word: u32)
+    requires { ⌜ at + 4 ≤ length (now output) ⌝ }
+    ensures { λ _. ⌜ now (output .exit) ≡ putWords (now (output .entry)) at (word ∷ []) ⌝ }
+{
+    output[at] = (word / 16777216) as u8;
+    output[at + 1] = (word / 65536 % 256) as u8;
+    output[at + 2] = (word / 256 % 256) as u8;
+    output[at + 3] = (word % 256) as u8;
+}
+
+// Writes a word and feeds it for the register at an address.
+pub(crate) fn put_fed(
+    table: &[u16; 256],
+    output: &mut [u8],
+    pen: Pen,
+    address: u32,
+    word: u32,
+) -> Pen
+    requires { ⌜ (now table ≡ entries 256 0) × (pen .at + 4 ≤ length (now output)) ⌝ }
+    ensures { λ r. ⌜ r .at ≡ pen .at + 4 ⌝ }
+    ensures { λ r. ⌜ r .crc ≡ feed (pen .crc) address word ⌝ }
+    ensures { λ _. ⌜ now (output .exit) ≡ putWords (now (output .entry)) (pen .at) (word ∷ []) ⌝ }
+{
+    put_word(output, pen.at, word);
+    Pen {
+        at: pen.at + 4,
+        crc: crc16::feed_with(table, pen.crc, address, word),
+    }
+}
+
+// Writes a word to a register.
+pub(crate) fn put_write(
+    table: &[u16; 256],
+    output: &mut [u8],
+    pen: Pen,
+    register: Register,
+    word: u32,
+) -> Pen
+    requires { ⌜ (now table ≡ entries 256 0) × (pen .at + 8 ≤ length (now output)) ⌝ }
+    ensures { λ r. ⌜ r .at ≡ pen .at + 8 ⌝ }
+    ensures { λ r. ⌜ r .crc ≡ crcAfter (pen .crc) (Packet.Write register word ∷ []) ⌝ }
+    ensures { λ _. ⌜ now (output .exit) ≡ emitted (now (output .entry)) (pen .at) (pen .crc) (Packet.Write register word ∷ []) ⌝ }
+{
+    let address = address_of(register);
+    put_word(output, pen.at, 0x30000001 + address * 8192);
+    let after = Pen {
+        at: pen.at + 4,
+        crc: pen.crc,
+    };
+    put_fed(table, output, after, address, word)
+}
+
+// Writes a command. RCRC makes the CRC zero.
+pub(crate) fn put_command(table: &[u16; 256], output: &mut [u8], pen: Pen, command: u32) -> Pen
+    requires { ⌜ (now table ≡ entries 256 0) × (pen .at + 8 ≤ length (now output)) ⌝ }
+    ensures { λ r. ⌜ r .at ≡ pen .at + 8 ⌝ }
+    ensures { λ r. ⌜ r .crc ≡ crcAfter (pen .crc) (Packet.Command command ∷ []) ⌝ }
+    ensures { λ _. ⌜ now (output .exit) ≡ emitted (now (output .entry)) (pen .at) (pen .crc) (Packet.Command command ∷ []) ⌝ }
+{
+    let after = put_write(table, output, pen, Register::Cmd, command);
+    if command == 7 {
+        return Pen {
+            at: after.at,
+            crc: 0,
+        };
+    }
+    after
+}
+
+// Writes the word that passes the check to CRC.
+pub(crate) fn put_check(output: &mut [u8], pen: Pen) -> Pen
+    requires { ⌜ pen .at + 8 ≤ length (now output) ⌝ }
+    ensures { λ r. ⌜ r .at ≡ pen .at + 8 ⌝ }
+    ensures { λ r. ⌜ r .crc ≡ crcAfter (pen .crc) (Packet.Check ∷ []) ⌝ }
+    ensures { λ _. ⌜ now (output .exit) ≡ emitted (now (output .entry)) (pen .at) (pen .crc) (Packet.Check ∷ []) ⌝ }
+{
+    put_word(output, pen.at, 0x30000001);
+    put_word(output, pen.at + 4, crc16::check_word(pen.crc));
+    Pen {
+        at: pen.at + 8,
+        crc: 0,
+    }
+}
+
+// Writes two zero words to MFWR.
+pub(crate) fn put_multi(table: &[u16; 256], output: &mut [u8], pen: Pen) -> Pen
+    requires { ⌜ (now table ≡ entries 256 0) × (pen .at + 12 ≤ length (now output)) ⌝ }
+    ensures { λ r. ⌜ r .at ≡ pen .at + 12 ⌝ }
+    ensures { λ r. ⌜ r .crc ≡ crcAfter (pen .crc) (Packet.MultiFrame ∷ []) ⌝ }
+    ensures { λ _. ⌜ now (output .exit) ≡ emitted (now (output .entry)) (pen .at) (pen .crc) (Packet.MultiFrame ∷ []) ⌝ }
+{
+    put_word(output, pen.at, 0x30014002);
+    let after = Pen {
+        at: pen.at + 4,
+        crc: pen.crc,
+    };
+    let first = put_fed(table, output, after, 10, 0);
+    put_fed(table, output, first, 10, 0)
+}
