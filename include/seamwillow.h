@@ -41,6 +41,20 @@ uint32_t sw_check(uint32_t device, uint32_t first, uint32_t count, const uint8_t
 uint32_t sw_apply(uint32_t device, uint32_t first, uint32_t count, const uint8_t *layout, size_t layout_len,
                   uint8_t *memory, size_t memory_len, uint64_t *value);
 
+/* Answers as sw_check, then 36 with the length needed for an out_len under that of the stream. 0 writes the stream to
+   the first bytes of out and leaves those after it; a refusal leaves all of out as it was. */
+uint32_t sw_compile(uint32_t device, uint32_t first, uint32_t count, const uint8_t *layout, size_t layout_len,
+                    uint8_t *out, size_t out_len, uint64_t *value);
+
+/* Compiles the layout for the record's own device into out, then loads the stream. 22 and 23 as sw_load, then 24 (a
+   number of this interface) for a consistent record that is not hunting, all three with value 0; then 37, the layout's
+   refusals and 36 as sw_compile. Every refusal leaves record, memory and out as they were. 0 and the stream's length:
+   out is as sw_compile leaves it, the memory as sw_apply does, and the record is consistent and hunts, with no bytes
+   remembered. */
+uint32_t sw_reconfigure(uint8_t *record, size_t record_len, uint8_t *memory, size_t memory_len,
+                        uint32_t first, uint32_t count, const uint8_t *layout, size_t layout_len,
+                        uint8_t *out, size_t out_len, uint64_t *value);
+
 #ifdef __cplusplus
 }
 #endif

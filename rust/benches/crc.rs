@@ -4,8 +4,9 @@ use seamwillow_tests::ffi;
 use seamwillow_tests::names::register::FDRI;
 use seamwillow_tests::random::Random;
 use seamwillow_tests::tables::Tables;
+use seamwillow_tests::timing::{best, timed};
 use std::hint::black_box;
-use std::time::{Duration, Instant};
+use std::time::Duration;
 
 const WORDS: usize = 1_000_000;
 const ROUNDS: usize = 15;
@@ -22,12 +23,6 @@ fn run_proved(words: &[u32]) -> u32 {
     words.iter().fold(0, |crc, &word| ffi::crc(crc, FDRI, word))
 }
 
-fn timed(run: impl FnOnce() -> u32) -> (Duration, u32) {
-    let start = Instant::now();
-    let crc = black_box(run());
-    (start.elapsed(), crc)
-}
-
 fn report(name: &str, time: Duration) {
     let words = WORDS as f64 / time.as_secs_f64();
     println!(
@@ -40,18 +35,14 @@ fn main() {
     let mut random = Random::new(3);
     let words: Vec<u32> = (0..WORDS).map(|_| random.next_u32()).collect();
     let tables = black_box(Tables::new());
-    let mut best_proved = Duration::MAX;
-    let mut best_table = Duration::MAX;
-    // The rounds take turns, so that other load on the machine meets both alike.
-    for _ in 0..ROUNDS {
+    let [proved, table] = best(ROUNDS, || {
         let (proved_time, proved_crc) = timed(|| run_proved(black_box(&words)));
         let (table_time, table_crc) = timed(|| run_tables(&tables, black_box(&words)));
         assert_eq!(proved_crc, table_crc);
-        best_proved = best_proved.min(proved_time);
-        best_table = best_table.min(table_time);
-    }
-    report("sw_crc", best_proved);
-    report("table loop", best_table);
-    let ratio = best_table.as_secs_f64() / best_proved.as_secs_f64();
+        [proved_time, table_time]
+    });
+    report("sw_crc", proved);
+    report("table loop", table);
+    let ratio = table.as_secs_f64() / proved.as_secs_f64();
     println!("sw_crc runs at {ratio:.2} times the speed of the table loop");
 }

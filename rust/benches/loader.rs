@@ -6,9 +6,10 @@ use seamwillow_tests::random::Random;
 use seamwillow_tests::reference::{Lookups, Part, PARTS};
 use seamwillow_tests::sides::image_word;
 use seamwillow_tests::tables::Tables;
+use seamwillow_tests::timing::{best, speeds, timed};
 use seamwillow_tests::{ffi, stream};
 use std::hint::black_box;
-use std::time::{Duration, Instant};
+use std::time::Duration;
 
 const ROUNDS: usize = 25;
 /// What the part itself takes.
@@ -153,12 +154,6 @@ fn next_word(bytes: &[u8]) -> Option<(u32, &[u8])> {
     Some((u32::from_be_bytes(*word), rest))
 }
 
-fn timed<T>(run: impl FnOnce() -> T) -> (Duration, T) {
-    let start = Instant::now();
-    let answer = black_box(run());
-    (start.elapsed(), answer)
-}
-
 /// The times of both on one stream; asserts that both ended alike.
 fn round(device: u32, stream: &[u8], tables: &Tables, lookups: &Lookups) -> [Duration; 2] {
     let memory_bytes = PARTS[device as usize].memory_bytes();
@@ -187,12 +182,8 @@ fn main() {
         let count = part.memory_bytes() / 4;
         let frames: Vec<u32> = (0..count).map(|_| random.next_u32()).collect();
         let stream = stream::full_configuration(device, &frames);
-        // The rounds take turns, so that other load on the machine meets both alike.
-        let best = (0..ROUNDS)
-            .map(|_| round(device, &stream, &tables, &lookups))
-            .reduce(|best, times| [best[0].min(times[0]), best[1].min(times[1])])
-            .expect("there are rounds");
-        let [proved, plain] = best.map(|time| stream.len() as f64 / 1e6 / time.as_secs_f64());
+        let times = best(ROUNDS, || round(device, &stream, &tables, &lookups));
+        let [proved, plain] = speeds(stream.len(), times);
         let verdict = if proved > NEEDED {
             "above"
         } else {

@@ -40,6 +40,29 @@ extern "C" {
         memory_len: usize,
         value: *mut u64,
     ) -> u32;
+    fn sw_compile(
+        device: u32,
+        first: u32,
+        count: u32,
+        layout: *const u8,
+        layout_len: usize,
+        out: *mut u8,
+        out_len: usize,
+        value: *mut u64,
+    ) -> u32;
+    fn sw_reconfigure(
+        record: *mut u8,
+        record_len: usize,
+        memory: *mut u8,
+        memory_len: usize,
+        first: u32,
+        count: u32,
+        layout: *const u8,
+        layout_len: usize,
+        out: *mut u8,
+        out_len: usize,
+        value: *mut u64,
+    ) -> u32;
 }
 
 /// Neither a frame address nor a frame number, so an answer that was never written shows.
@@ -135,6 +158,55 @@ pub fn apply(desk: Desk, layout: &[u8], memory: &mut [u8]) -> (u32, u64) {
             layout.len(),
             memory.as_mut_ptr(),
             memory.len(),
+            &mut value,
+        )
+    };
+    (code, value)
+}
+
+/// Writes a layout's stream to the output's first bytes; the code and its value.
+pub fn compile(desk: Desk, layout: &[u8], output: &mut [u8]) -> (u32, u64) {
+    let mut value = JUNK_BYTES;
+    // SAFETY: the function reads the layout, and writes within the output and to one number,
+    // all ours for the call.
+    let code = unsafe {
+        sw_compile(
+            desk.device,
+            desk.first,
+            desk.count,
+            layout.as_ptr(),
+            layout.len(),
+            output.as_mut_ptr(),
+            output.len(),
+            &mut value,
+        )
+    };
+    (code, value)
+}
+
+/// Compiles a layout for the record's own device and loads the stream; the code and its value.
+pub fn reconfigure(
+    record: &mut [u8],
+    memory: &mut [u8],
+    [first, count]: [u32; 2],
+    layout: &[u8],
+    output: &mut [u8],
+) -> (u32, u64) {
+    let mut value = JUNK_BYTES;
+    // SAFETY: the function reads the layout, and writes within the three slices and to one number,
+    // all ours for the call.
+    let code = unsafe {
+        sw_reconfigure(
+            record.as_mut_ptr(),
+            record.len(),
+            memory.as_mut_ptr(),
+            memory.len(),
+            first,
+            count,
+            layout.as_ptr(),
+            layout.len(),
+            output.as_mut_ptr(),
+            output.len(),
             &mut value,
         )
     };

@@ -114,7 +114,7 @@ impl Guide<'_> {
         let most = left.min(self.device.part().frame_words());
         let words = 1 + self.random.below(most - 1);
         let bytes = 4 * words as usize - self.device.bytes.len();
-        (0..bytes).map(|_| self.random.next_u32() as u8).collect()
+        self.random.bytes(bytes)
     }
 
     /// Whether the next choice is a bad one; headers are few, so bad ones are more frequent.
@@ -239,7 +239,7 @@ impl Guide<'_> {
 
 fn junk(random: &mut Random, most: usize) -> Vec<u8> {
     let count = random.place(most);
-    (0..count).map(|_| random.next_u32() as u8).collect()
+    random.bytes(count)
 }
 
 /// Damages a stream without regard to its packets.

@@ -2,7 +2,6 @@
 
 use crate::random::Random;
 use crate::reference::PARTS;
-use crate::sides::State;
 
 fn lengths() -> impl Iterator<Item = usize> {
     PARTS.iter().map(|part| part.memory_bytes())
@@ -16,8 +15,16 @@ pub fn wrong_lengths(device: u32) -> Vec<usize> {
     wrong
 }
 
+/// The length of a memory for a device, rarely a wrong one.
+pub fn some_length(random: &mut Random, device: u32) -> usize {
+    match random.below(128) {
+        0 => random.pick(&wrong_lengths(device)),
+        _ => PARTS[device as usize].memory_bytes(),
+    }
+}
+
 /// Random bytes, enough for a memory of any part and of any wrong length.
 pub fn junk(random: &mut Random) -> Vec<u8> {
     let longest = lengths().max().expect("there are parts");
-    State::junk(random, 0, longest + 4).memory
+    random.bytes(longest + 4)
 }

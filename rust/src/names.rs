@@ -38,6 +38,8 @@ pub mod field {
     pub const DEVICE: usize = 0;
     pub const PHASE: usize = 1;
     pub const ARGUMENT: usize = 2;
+    /// How many bytes are remembered.
+    pub const BYTE_COUNT: usize = 5;
     pub const CURRENT: usize = 7;
     pub const FLAGS: usize = 8;
     pub const CRC: usize = 9;
@@ -52,6 +54,7 @@ pub mod phase {
     pub const HUNTING: u32 = 0;
     pub const HEADER: u32 = 1;
     pub const DATA: u32 = 2;
+    pub const CRC: u32 = 3;
     pub const STOPPED: u32 = 4;
 }
 

@@ -39,6 +39,11 @@ impl Random {
         ((mixed ^ (mixed >> 31)) >> 32) as u32
     }
 
+    /// Bytes of any values.
+    pub fn bytes(&mut self, count: usize) -> Vec<u8> {
+        (0..count).map(|_| self.next_u32() as u8).collect()
+    }
+
     /// A number under `bound`; the bias of the remainder does not matter to a test.
     pub fn below(&mut self, bound: u32) -> u32 {
         self.next_u32() % bound

@@ -33,9 +33,18 @@ pub fn consistent(random: &mut Random, device: u32) -> Vec<u8> {
     image(&consistent_words(random, device))
 }
 
+/// The image of a consistent record in a phase.
+pub fn in_phase(random: &mut Random, device: u32, phase: u32) -> Vec<u8> {
+    image(&words_in_phase(random, device, phase))
+}
+
 fn consistent_words(random: &mut Random, device: u32) -> Vec<u32> {
-    let part = &PARTS[device as usize];
     let phase = random.below(5);
+    words_in_phase(random, device, phase)
+}
+
+fn words_in_phase(random: &mut Random, device: u32, phase: u32) -> Vec<u32> {
+    let part = &PARTS[device as usize];
     let mut flags = random.below(128);
     // Half of the parts have accepted IDCODE and FLR and hold a frame.
     if random.one_in(2) {

@@ -5,6 +5,7 @@
 
 use std::collections::HashMap;
 use std::iter;
+use std::sync::LazyLock;
 
 /// A lookup of a device number above 7.
 const NO_DEVICE: u32 = 21;
@@ -163,6 +164,9 @@ impl Default for Lookups {
         Self::new()
     }
 }
+
+/// Listed once, for whatever looks up a frame at a time.
+pub static LOOKUPS: LazyLock<Lookups> = LazyLock::new(Lookups::new);
 
 /// The register bits that the input is added to: those of X^15, X^2 and 1.
 const TAPS: u16 = 1 << 15 | 1 << 2 | 1;

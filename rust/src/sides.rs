@@ -43,10 +43,9 @@ pub fn image_word(record: &[u8], index: usize) -> u32 {
 impl State {
     /// Bytes that no function wrote, so that one left out shows.
     pub fn junk(random: &mut Random, record_bytes: usize, memory_bytes: usize) -> Self {
-        let mut bytes = |count| (0..count).map(|_| random.next_u32() as u8).collect();
         Self {
-            record: bytes(record_bytes),
-            memory: bytes(memory_bytes),
+            record: random.bytes(record_bytes),
+            memory: random.bytes(memory_bytes),
         }
     }
 
@@ -107,7 +106,7 @@ impl Side {
 }
 
 /// Cuts a stream at random places, at times between all bytes; pieces may be empty.
-fn cut<'a>(random: &mut Random, stream: &'a [u8]) -> Vec<&'a [u8]> {
+pub fn cut<'a>(random: &mut Random, stream: &'a [u8]) -> Vec<&'a [u8]> {
     if (1..200).contains(&stream.len()) && random.one_in(16) {
         return stream.chunks(1).collect();
     }

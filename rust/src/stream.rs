@@ -99,6 +99,13 @@ impl Stream {
         self.frames_before_check(words).check_word()
     }
 
+    /// Frames and a pad frame to FDRI, with the auto CRC word.
+    pub fn padded_frames(&mut self, words: &[u32], frame_words: u32) -> &mut Self {
+        let mut padded = words.to_vec();
+        padded.resize(words.len() + frame_words as usize, 0);
+        self.frames(&padded)
+    }
+
     /// Frames to FDRI, the auto CRC word still to come.
     pub fn frames_before_check(&mut self, words: &[u32]) -> &mut Self {
         self.words(&[
@@ -106,6 +113,18 @@ impl Stream {
             long_header(words.len() as u32),
         ])
         .data(register::FDRI, words)
+    }
+
+    /// The frame in hand to each address; the command stands from the first on.
+    pub fn multiple_writes(&mut self, addresses: impl IntoIterator<Item = u32>) -> &mut Self {
+        for (index, address) in addresses.into_iter().enumerate() {
+            self.write(register::FAR, &[address]);
+            if index == 0 {
+                self.command(command::MFWR);
+            }
+            self.write(register::MFWR, &[0, 0]);
+        }
+        self
     }
 
     pub fn bytes(&self) -> &[u8] {
@@ -121,8 +140,6 @@ impl Stream {
 pub fn full_configuration(device: u32, frames: &[u32]) -> Vec<u8> {
     let part = &PARTS[device as usize];
     let frame_words = part.frame_words();
-    let mut padded = frames.to_vec();
-    padded.resize(frames.len() + frame_words as usize, 0);
     let mut stream = Stream::synced();
     stream
         .command(command::RCRC)
@@ -133,7 +150,7 @@ pub fn full_configuration(device: u32, frames: &[u32]) -> Vec<u8> {
         .command(command::SWITCH)
         .write(register::FAR, &[0])
         .command(command::WCFG)
-        .frames(&padded)
+        .padded_frames(frames, frame_words)
         .command(command::GRESTORE)
         .command(command::LFRM)
         .no_ops(frame_words)
@@ -152,16 +169,15 @@ pub fn multiple_frame_write(
     frame: &[u32],
     targets: &[u32],
 ) -> Vec<u8> {
+    let addresses = targets
+        .iter()
+        .map(|&target| lookups.frame_address(device, target).1);
     let mut stream = Stream::ready(device);
-    stream.command(command::WCFG).frames(frame);
-    for (index, &target) in targets.iter().enumerate() {
-        let (_, address) = lookups.frame_address(device, target);
-        stream.write(register::FAR, &[address]);
-        if index == 0 {
-            stream.command(command::MFWR);
-        }
-        stream.write(register::MFWR, &[0, 0]);
-    }
-    stream.check().command(command::DESYNC);
+    stream
+        .command(command::WCFG)
+        .frames(frame)
+        .multiple_writes(addresses)
+        .check()
+        .command(command::DESYNC);
     stream.into_bytes()
 }

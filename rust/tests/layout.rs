@@ -1,28 +1,25 @@
 //! The proved layout reader and reference machine against the independent ones: code, value and
 //! memory all equal.
 
-use seamwillow_tests::layout::{answer, number, Cause, Desk, Refusal};
+use seamwillow_tests::counts::Counts;
+use seamwillow_tests::layout::{answer, number, Cause, Desk, Refusal, MOST_STEPS};
 use seamwillow_tests::layout_sides::Comparer;
 use seamwillow_tests::random::{self, Random};
 use seamwillow_tests::reference::PARTS;
 use seamwillow_tests::{layouts, memories};
-use std::collections::BTreeMap;
 
 const LAYOUTS: u64 = 520_000;
-const MOST_STEPS: u32 = 4096;
 
-/// A cause or a number is taken for reached if so many layouts come to it.
-const REACHED: u32 = 100;
 /// Those that the C interface gives.
 const NUMBERS: [u32; 9] = [0, 21, 23, 31, 32, 33, 34, 35, 37];
 
 /// What the generated layouts came to, so that a generator gone shallow shows.
 #[derive(Default, Debug)]
 struct Coverage {
-    numbers: BTreeMap<u32, u32>,
-    causes: BTreeMap<Cause, u32>,
-    accepted: BTreeMap<u32, u32>,
-    refused: BTreeMap<u32, u32>,
+    numbers: Counts<u32>,
+    causes: Counts<Cause>,
+    accepted: Counts<u32>,
+    refused: Counts<u32>,
 }
 
 impl Coverage {
@@ -30,36 +27,20 @@ impl Coverage {
         let (parts, number) = match result {
             Ok(_) => (&mut self.accepted, 0),
             Err(Refusal { cause, .. }) => {
-                *self.causes.entry(cause).or_default() += 1;
+                self.causes.note(cause);
                 (&mut self.refused, cause.number())
             }
         };
-        *parts.entry(device).or_default() += 1;
-        *self.numbers.entry(number).or_default() += 1;
+        parts.note(device);
+        self.numbers.note(number);
     }
 
     fn assert_deep(&self) {
         println!("{self:?}");
-        for number in NUMBERS {
-            assert!(self.numbers.get(&number) >= Some(&REACHED), "{number}");
-        }
-        for cause in Cause::all() {
-            assert!(self.causes.get(&cause) >= Some(&REACHED), "{cause:?}");
-        }
-        for device in 0..8 {
-            let parts = [&self.accepted, &self.refused];
-            let is_reached = parts.map(|counts| counts.get(&device) >= Some(&REACHED));
-            assert_eq!(is_reached, [true; 2], "device {device}");
-        }
-    }
-}
-
-/// The bytes of a memory for a device, rarely of a wrong length.
-fn some_memory_bytes(random: &mut Random, device: u32) -> usize {
-    let known = device.min(7);
-    match random.below(128) {
-        0 => random.pick(&memories::wrong_lengths(known)),
-        _ => PARTS[known as usize].memory_bytes(),
+        self.numbers.assert_reached(NUMBERS);
+        self.causes.assert_reached(Cause::all());
+        self.accepted.assert_reached(0..8);
+        self.refused.assert_reached(0..8);
     }
 }
 
@@ -72,7 +53,7 @@ fn generated_layouts() {
     for case in 0..LAYOUTS {
         let mut random = Random::of_case(seed, case);
         let (desk, layout) = layouts::some(&mut random);
-        let memory = &memory[..some_memory_bytes(&mut random, desk.device)];
+        let memory = &memory[..memories::some_length(&mut random, desk.device.min(7))];
         let case = format!("seed {seed}, case {case}");
         let result = comparer.compare(desk, &layout, memory, &case);
         coverage.note(desk.device, result);

@@ -1,19 +1,16 @@
 //! The proved loader against the independent one: record, memory, stop and taken all equal.
 
+use seamwillow_tests::counts::Counts;
 use seamwillow_tests::loader::{Device, RECORD_BYTES};
 use seamwillow_tests::names::{field, flag};
 use seamwillow_tests::random::{self, Random};
 use seamwillow_tests::reference::{Lookups, PARTS};
 use seamwillow_tests::sides::{assert_same, compare, End, State, INDEPENDENT, PROVED};
 use seamwillow_tests::{guided, memories, records};
-use std::collections::BTreeMap;
 
 const FRESH_STREAMS: u64 = 110_000;
 const OTHER_STREAMS: u64 = 110_000;
 const IMAGES: u64 = 200_000;
-
-/// A stop is taken for reached if so many streams end in it.
-const REACHED: u32 = 100;
 
 /// A device, the smallest mostly: the memory's length is what a case costs.
 fn some_device(random: &mut Random) -> u32 {
@@ -33,7 +30,7 @@ struct Memories {
 impl Memories {
     fn new(random: &mut Random) -> Self {
         let lengths = PARTS.iter().map(|part| part.memory_bytes());
-        let mut content = |length| State::junk(random, 0, length).memory;
+        let mut content = |length| random.bytes(length);
         Self {
             contents: lengths.clone().map(&mut content).collect(),
             scratch: lengths.map(|length| vec![0; length]).collect(),
@@ -49,16 +46,16 @@ impl Memories {
 /// What the generated streams came to, so that a generator gone shallow shows.
 #[derive(Default, Debug)]
 struct Coverage {
-    codes: BTreeMap<u32, u32>,
-    phases: BTreeMap<u32, u32>,
+    codes: Counts<u32>,
+    phases: Counts<u32>,
     stores: u32,
     starts: u32,
 }
 
 impl Coverage {
     fn note(&mut self, start: &State, end: &End) {
-        *self.codes.entry(end.code).or_default() += 1;
-        *self.phases.entry(end.state.word(field::PHASE)).or_default() += 1;
+        self.codes.note(end.code);
+        self.phases.note(end.state.word(field::PHASE));
         self.stores += u32::from(start.memory != end.state.memory);
         let started = end.state.word(field::FLAGS) & !start.word(field::FLAGS) & flag::STARTED;
         self.starts += u32::from(started != 0);
@@ -66,12 +63,8 @@ impl Coverage {
 
     fn assert_deep(&self) {
         println!("{self:?}");
-        let reached = |counts: &BTreeMap<u32, u32>, key| counts.get(&key) >= Some(&REACHED);
-        assert!((0..=10).all(|code| reached(&self.codes, code)), "{self:?}");
-        assert!(
-            (0..=4).all(|phase| reached(&self.phases, phase)),
-            "{self:?}"
-        );
+        self.codes.assert_reached(0..=10);
+        self.phases.assert_reached(0..=4);
         assert!(self.stores >= 10_000 && self.starts >= 500, "{self:?}");
     }
 }

@@ -3,7 +3,7 @@
 use seamwillow_tests::names::{field, flag, phase, register};
 use seamwillow_tests::random::{self, Random};
 use seamwillow_tests::reference::{Lookups, PARTS};
-use seamwillow_tests::sides::{compare, State, INDEPENDENT, PROVED};
+use seamwillow_tests::sides::{compare, INDEPENDENT, PROVED};
 use seamwillow_tests::{guided, stream};
 
 /// 001's Table 7, "Total # of Bits", at the device numbers.
@@ -114,7 +114,7 @@ fn multiple_frame_writes() {
     for device in (0..8).cycle().take(80) {
         let (stream, frame, targets) = some_multiple(&mut random, &lookups, device);
         let mut start = PROVED.powered(device);
-        start.memory = State::junk(&mut random, 0, start.memory.len()).memory;
+        start.memory = random.bytes(start.memory.len());
         let what = format!("device {device}, targets {targets:?}");
         let end = compare(&mut random, &start, &stream, &what);
         assert_eq!((end.code, end.taken), (0, stream.len() as u64), "{what}");

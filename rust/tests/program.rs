@@ -1,19 +1,13 @@
 //! The built program `load50` on the stored runs; `runs/README.md` tells how each was worked out.
 
 use seamwillow_tests::names::{command, field, flag};
+use seamwillow_tests::programs::{finished, text, FOLDER, LOAD50};
 use seamwillow_tests::sides::End;
 use seamwillow_tests::stream::{full_configuration, Stream};
 use seamwillow_tests::worked::{at_address, frames, FRAMES, FRAME_367, FRAME_WORDS, SIDES};
 use std::fs::{self, File};
-use std::io::{ErrorKind, Result, Write};
-use std::os::fd::OwnedFd;
-use std::os::unix::net::UnixDatagram;
 use std::path::{Path, PathBuf};
-use std::process::{Child, Command, Output, Stdio};
-use std::{env, iter};
-
-const VARIABLE: &str = "SEAMWILLOW_LOAD50";
-const FOLDER: &str = env!("CARGO_MANIFEST_DIR");
+use std::process::Output;
 
 type Build = fn() -> Vec<u8>;
 
@@ -107,71 +101,11 @@ fn stored(name: &str, ending: &str) -> Vec<u8> {
     fs::read(&path).unwrap_or_else(|error| panic!("{}: {error}", path.display()))
 }
 
-/// Each byte as a character, to compare and to show.
-fn text(bytes: &[u8]) -> String {
-    bytes.iter().map(|&byte| char::from(byte)).collect()
-}
-
-fn start(input: Stdio) -> Child {
-    let built = || Path::new(FOLDER).join("../target/bin/load50");
-    let program = env::var_os(VARIABLE).map_or_else(built, PathBuf::from);
-    assert!(
-        program.is_file(),
-        "{} is missing: run `rt check load50` first, or let {VARIABLE} name the program",
-        program.display()
-    );
-    let mut command = Command::new(&program);
-    command.stdin(input);
-    command.stdout(Stdio::piped()).stderr(Stdio::piped());
-    command
-        .spawn()
-        .unwrap_or_else(|error| panic!("{}: {error}", program.display()))
-}
-
-fn finished(child: Child) -> Output {
-    child.wait_with_output().expect("the program is waited for")
-}
-
 fn assert_prints(output: &Output, name: &str, how: &str) {
     let expected = text(&stored(name, "out"));
     assert_eq!(text(&output.stdout), expected, "{name}, {how}");
     assert_eq!(text(&output.stderr), "", "{name}, {how}");
     assert!(output.status.success(), "{name}, {how}: {}", output.status);
-}
-
-/// Sends pieces to the program, all or up to its end.
-fn feed<'a>(pieces: impl Iterator<Item = &'a [u8]>, mut send: impl FnMut(&'a [u8]) -> Result<()>) {
-    for piece in pieces {
-        match send(piece).map_err(|error| error.kind()) {
-            Ok(()) => {}
-            // The program does not read on after a stop.
-            Err(ErrorKind::BrokenPipe | ErrorKind::ConnectionRefused) => return,
-            Err(error) => panic!("a piece was not sent: {error}"),
-        }
-    }
-}
-
-/// A run on a pipe; a read may give several pieces at once.
-fn run_on_pipe(stream: &[u8], length: usize) -> Output {
-    let mut child = start(Stdio::piped());
-    let mut input = child.stdin.take().expect("the input is a pipe");
-    feed(stream.chunks(length), |piece| {
-        input.write_all(piece)?;
-        input.flush()
-    });
-    drop(input);
-    finished(child)
-}
-
-/// A run on a socket that keeps messages apart: each read gives one piece, an empty one the end.
-fn run_on_messages(stream: &[u8], length: usize) -> Output {
-    let (ours, theirs) = UnixDatagram::pair().expect("there are sockets");
-    let child = start(OwnedFd::from(theirs).into());
-    let last: &[u8] = &[];
-    feed(stream.chunks(length).chain(iter::once(last)), |piece| {
-        ours.send(piece).map(drop)
-    });
-    finished(child)
 }
 
 /// The four lines for a load.
@@ -189,7 +123,11 @@ fn verdict(end: &End) -> String {
 fn stored_runs() {
     for (name, _) in RUNS {
         let input = File::open(path(name, "stream")).expect("the stream is stored");
-        assert_prints(&finished(start(input.into())), name, "from the file");
+        assert_prints(
+            &finished(LOAD50.start(&[], input.into())),
+            name,
+            "from the file",
+        );
     }
 }
 
@@ -203,9 +141,9 @@ fn input_in_pieces() {
         };
         for &length in lengths {
             let how = format!("pieces of {length}");
-            let on_pipe = run_on_pipe(&stream, length);
+            let on_pipe = LOAD50.run_on_pipe(&[], &stream, length);
             assert_prints(&on_pipe, name, &format!("{how} on a pipe"));
-            let on_messages = run_on_messages(&stream, length);
+            let on_messages = LOAD50.run_on_messages(&[], &stream, length);
             assert_prints(&on_messages, name, &format!("{how}, each read alone"));
         }
     }
@@ -245,7 +183,7 @@ fn both_loaders_agree() {
 fn a_failed_read_is_told() {
     // A folder can be opened but not read.
     let folder = File::open(FOLDER).expect("the folder can be opened");
-    let output = finished(start(folder.into()));
+    let output = finished(LOAD50.start(&[], folder.into()));
     assert_eq!(text(&output.stdout), "");
     let told = text(&output.stderr);
     let line = told.strip_suffix('\n').unwrap_or_default();

@@ -7,8 +7,11 @@ ghost use Rattle.answers.specs.Refusals.{verdictNumber, verdictValue};
 ghost use Rattle.layout.specs.Range.{range};
 ghost use Rattle.layout.specs.Layout.{check};
 ghost use Rattle.reference.specs.Applied.{applied};
+ghost use Rattle.compiler.specs.Compiled.{compiled};
 ghost use Rattle.seamwillow.specs.Told.{numberTold};
-ghost use Rattle.seamwillow.specs.Records.{poweredImage, loadedImage};
+ghost use Rattle.seamwillow.specs.Records.{poweredImage, loadedImage, reconfiguredImage};
+use answers::change::change_number;
+use answers::change::change_value;
 use answers::layout::verdict_number;
 use answers::layout::verdict_value;
 use layout::FrameRange;
@@ -154,4 +157,61 @@ pub extern "C" fn sw_apply(
     let verdict = reference::apply(device, range, layout, memory);
     *value = verdict_value(verdict);
     verdict_number(verdict)
+}
+
+// Compiles a layout into an output, which a refusal leaves: 01's number is returned, the length or the refusal's offset written.
+#[no_mangle]
+pub extern "C" fn sw_compile(
+    device: u32,
+    first: u32,
+    count: u32,
+    layout: &[u8],
+    out: &mut [u8],
+    value: &mut u64,
+) -> u32
+    ensures { λ r. ⌜ r ≡ verdictNumber (compiled device (range first count) (now (layout .entry)) (now (out .entry)) .verdict) ⌝ }
+    ensures { λ _. ⌜ now (out .exit) ≡ compiled device (range first count) (now (layout .entry)) (now (out .entry)) .output ⌝ }
+    ensures { λ _. ⌜ now (value .exit) ≡ verdictValue (compiled device (range first count) (now (layout .entry)) (now (out .entry)) .verdict) ⌝ }
+{
+    let range = FrameRange {
+        first: first,
+        count: count,
+    };
+    let verdict = compiler::compile(device, range, layout, out);
+    *value = verdict_value(verdict);
+    verdict_number(verdict)
+}
+
+// Compiles for the record's own device and loads the stream; a refusal changes nothing. The value is written as by sw_compile.
+#[no_mangle]
+pub extern "C" fn sw_reconfigure(
+    state: &mut [u8],
+    memory: &mut [u8],
+    first: u32,
+    count: u32,
+    layout: &[u8],
+    out: &mut [u8],
+    value: &mut u64,
+) -> u32
+    ensures { λ r. ⌜ r ≡ reconfiguredImage (now (state .entry)) (now (memory .entry)) (range first count) (now (layout .entry)) (now (out .entry)) .code ⌝ }
+    ensures { λ _. ⌜ now (state .exit) ≡ reconfiguredImage (now (state .entry)) (now (memory .entry)) (range first count) (now (layout .entry)) (now (out .entry)) .image ⌝ }
+    ensures { λ _. ⌜ now (memory .exit) ≡ reconfiguredImage (now (state .entry)) (now (memory .entry)) (range first count) (now (layout .entry)) (now (out .entry)) .memory ⌝ }
+    ensures { λ _. ⌜ now (out .exit) ≡ reconfiguredImage (now (state .entry)) (now (memory .entry)) (range first count) (now (layout .entry)) (now (out .entry)) .output ⌝ }
+    ensures { λ _. ⌜ now (value .exit) ≡ reconfiguredImage (now (state .entry)) (now (memory .entry)) (range first count) (now (layout .entry)) (now (out .entry)) .value ⌝ }
+{
+    let device = image::decode::decode(state);
+    if !image::encode::matches(device, state) {
+        *value = 0;
+        return 22;
+    }
+    let range = FrameRange {
+        first: first,
+        count: count,
+    };
+    let done = reconfigure::reconfigure(device, memory, range, layout, out);
+    let changed = done.device;
+    let change = done.change;
+    image::encode::encode(changed, state);
+    *value = change_value(change);
+    change_number(change)
 }

@@ -14,6 +14,9 @@ use crate::reference::{Part, PARTS};
 
 pub use self::refusal::{Cause, Field, Refusal};
 
+/// The steps of the longest layout.
+pub const MOST_STEPS: u32 = 4096;
+
 /// The part of a desk, and the frames that the desk names, 01's seat: `count` from `first` on.
 #[derive(Clone, Copy, PartialEq, Eq, Debug)]
 pub struct Desk {
@@ -42,7 +45,7 @@ impl Desk {
     }
 }
 
-enum Step<'a> {
+pub(crate) enum Step<'a> {
     /// 01's kind 1.
     FrameWrite { first: usize, frames: Vec<&'a [u8]> },
     /// 01's kind 2.
@@ -53,12 +56,12 @@ enum Step<'a> {
 }
 
 /// A layout that was accepted.
-struct Layout<'a> {
-    part: &'static Part,
-    steps: Vec<Step<'a>>,
+pub(crate) struct Layout<'a> {
+    pub part: &'static Part,
+    pub steps: Vec<Step<'a>>,
 }
 
-fn read(desk: Desk, layout: &[u8]) -> Result<Layout<'_>, Refusal> {
+pub(crate) fn read(desk: Desk, layout: &[u8]) -> Result<Layout<'_>, Refusal> {
     let refused = |cause| Refusal { cause, offset: 0 };
     let part = PARTS.get(desk.device as usize);
     let part = part.ok_or(refused(Cause::UnknownDevice))?;

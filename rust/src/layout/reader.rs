@@ -2,11 +2,10 @@
 
 use super::number;
 use super::refusal::{Cause, Field, Refusal};
-use super::{Desk, Step};
+use super::{Desk, Step, MOST_STEPS};
 use crate::reference::Part;
 
 const EDITION: u64 = 1;
-const MOST_STEPS: u64 = 4096;
 
 /// A number that was read; wide, so that the sum of two does not wrap.
 #[derive(Clone, Copy)]
@@ -48,7 +47,8 @@ impl<'a> Reader<'a> {
         let is_desks = device.value == u64::from(self.desk.device);
         device.ensure(is_desks, Cause::OtherDevice)?;
         let count = self.number(Field::StepCount)?;
-        count.ensure(count.value <= MOST_STEPS, Cause::TooManySteps)?;
+        let is_allowed = count.value <= u64::from(MOST_STEPS);
+        count.ensure(is_allowed, Cause::TooManySteps)?;
         let mut steps = Vec::new();
         for _ in 0..count.value {
             steps.push(self.step()?);

@@ -2,7 +2,7 @@
 
 mod damage;
 
-use crate::layout::{number, Desk, Field};
+use crate::layout::{number, Desk, Field, MOST_STEPS};
 use crate::random::Random;
 use crate::reference::{Part, PARTS};
 
@@ -30,7 +30,7 @@ fn some_device(random: &mut Random) -> u32 {
 }
 
 /// A desk whose frames the part has; at times it names none.
-fn some_desk(random: &mut Random, device: u32) -> Desk {
+pub fn some_desk(random: &mut Random, device: u32) -> Desk {
     let whole = Desk::whole(device);
     let most = match random.below(8) {
         0..=3 => return whole,
@@ -63,9 +63,41 @@ pub fn some(random: &mut Random) -> (Desk, Vec<u8>) {
     (draft.desk, draft.coded())
 }
 
+/// A layout that is refused only by a desk that names no frames.
+pub fn good(random: &mut Random, desk: Desk) -> Vec<u8> {
+    Draft::good(random, desk).coded()
+}
+
 /// A good layout of so many steps.
 pub fn of_steps(random: &mut Random, desk: Desk, steps: u32) -> Vec<u8> {
     Draft::of_steps(random, desk, steps).coded()
+}
+
+/// A layout of one step, which writes every frame of the part.
+pub fn every_frame(random: &mut Random, device: u32) -> Vec<u8> {
+    let desk = Desk::whole(device);
+    let mut draft = Draft::begun(random, desk, 1);
+    draft.frame_write(0, desk.count);
+    draft.coded()
+}
+
+/// A layout whose steps have one frame each, for every place in the part.
+pub fn to_every_frame(random: &mut Random, device: u32, steps: u32) -> Vec<u8> {
+    let desk = Desk::whole(device);
+    let mut draft = Draft::begun(random, desk, steps);
+    for _ in 0..steps {
+        draft.multi_frame_write(desk.count);
+    }
+    draft.coded()
+}
+
+/// The largest layouts of a part: every frame in one step, one frame to every place, most steps.
+pub fn largest(random: &mut Random, device: u32) -> [Vec<u8>; 3] {
+    [
+        every_frame(random, device),
+        to_every_frame(random, device, 1),
+        of_steps(random, Desk::whole(device), MOST_STEPS),
+    ]
 }
 
 impl<'a> Draft<'a> {
@@ -79,6 +111,18 @@ impl<'a> Draft<'a> {
     }
 
     fn of_steps(random: &'a mut Random, desk: Desk, steps: u32) -> Self {
+        let mut draft = Self::begun(random, desk, steps);
+        for _ in 0..steps {
+            match draft.random.below(2) {
+                0 => draft.some_frame_write(),
+                _ => draft.some_multi_frame_write(),
+            }
+        }
+        draft
+    }
+
+    /// A layout up to its first step.
+    fn begun(random: &'a mut Random, desk: Desk, steps: u32) -> Self {
         let mut draft = Self {
             random,
             part: &PARTS[desk.device as usize],
@@ -88,12 +132,6 @@ impl<'a> Draft<'a> {
         draft.number(Field::Edition, 1);
         draft.number(Field::Device, desk.device);
         draft.number(Field::StepCount, steps);
-        for _ in 0..steps {
-            match draft.random.below(2) {
-                0 => draft.frame_write(),
-                _ => draft.multi_frame_write(),
-            }
-        }
         draft
     }
 
@@ -125,21 +163,31 @@ impl<'a> Draft<'a> {
         }
     }
 
-    fn frame_write(&mut self) {
+    fn some_frame_write(&mut self) {
         let count = self.some_count(128);
         let last = self.choice() - count;
         let first = self.desk.first + some_start(self.random, last);
+        self.frame_write(first, count);
+    }
+
+    fn some_multi_frame_write(&mut self) {
+        let count = self.some_count(32);
+        self.multi_frame_write(count);
+    }
+
+    fn frame_write(&mut self, first: u32, count: u32) {
         self.number(Field::Kind, 1);
         self.number(Field::FirstFrame, first);
         self.number(Field::FrameCount, count);
         self.frames(count);
     }
 
-    fn multi_frame_write(&mut self) {
-        let mut left = self.some_count(32);
+    /// One frame to so many of the frames that there are to choose from.
+    fn multi_frame_write(&mut self, count: u32) {
         self.number(Field::Kind, 2);
-        self.number(Field::TargetCount, left);
+        self.number(Field::TargetCount, count);
         self.frames(1);
+        let mut left = count;
         for before in 0..self.choice() {
             // This makes every choice of rising targets as likely as any other.
             if self.random.below(self.choice() - before) < left {

@@ -9,14 +9,13 @@ mod packet;
 
 use self::packet::{Packet, Stop};
 use crate::names::{command, register, SYNC};
-use crate::reference::{self, Lookups, Part, PARTS};
-use std::sync::LazyLock;
+use crate::reference::{self, Part, LOOKUPS, PARTS};
 
 pub use self::image::{load, power_on, RECORD_BYTES};
 
 const NO_DEVICE: u32 = 21;
-const BAD_RECORD: u32 = 22;
-const BAD_MEMORY: u32 = 23;
+pub(crate) const BAD_RECORD: u32 = 22;
+pub(crate) const BAD_MEMORY: u32 = 23;
 
 /// The registers have addresses up to 14, two of them of no register.
 const REGISTERS: usize = 15;
@@ -24,8 +23,6 @@ const REGISTERS: usize = 15;
 const BUFFER_WORDS: usize = 213;
 /// The largest count of a type 2 header.
 const MOST_WORDS: u32 = 134_217_727;
-
-static LOOKUPS: LazyLock<Lookups> = LazyLock::new(Lookups::new);
 
 #[derive(Clone, Copy, PartialEq, Eq, Debug)]
 pub enum Phase {

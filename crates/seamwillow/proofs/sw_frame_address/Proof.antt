@@ -1,6 +1,6 @@
 -- `seamwillow::sw_frame_address` meets its contract: each answer has its number and what is written for it.
 -- By computation, once the answer is known.
-use mathlib.Core.Path.{_≡_, _∙_, refl, sym}
+use mathlib.Core.Path.{_∙_, refl, sym}
 use borrow.Author.Needs.{needs}
 use Rattle.parts.specs.Address.{addressTold}
 use Rattle.seamwillow.proofs.sw_frame_address.Statement.{statement}

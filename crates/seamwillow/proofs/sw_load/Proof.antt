@@ -1,22 +1,21 @@
 -- `seamwillow::sw_load` meets its contract: an image that is accepted is loaded and written back, any other is refused.
 -- By the law of each of the two cases, from what the calls ensure.
-use mathlib.Core.Path.{_≡_, _∙_, refl, sym, ap}
+use mathlib.Core.Path.{_≡_, _∙_, refl, ap}
 use borrow.Author.Tests.{not-true, not-false}
 use denote.Ref.{now}
 use Rattle.answers.specs.Numbers.{answerNumber}
 use Rattle.loader.specs.Load.{load}
 use Rattle.device.specs.declared.Device.{Device}
 use Rattle.image.specs.Image.{encoded}
-use Rattle.image.specs.Compare.{isImage, accepted}
-use Rattle.seamwillow.specs.Records.{loaded-refused, loaded-done}
+use Rattle.image.specs.Compare.{accepted}
+use Rattle.seamwillow.specs.Records.{compared, loaded-refused, loaded-done}
 use borrow.Author.Needs.{needs}
 use Rattle.seamwillow.proofs.sw_load.Statement.{statement}
 use Rattle.seamwillow.proofs.sw_load.Tie as tie
 
 -- what `matches` answers of the decoded record is whether the image is accepted
 judged : (c : tie.After-matches) → accepted (now (c .before .before .before .before .before .before .before .args .state)) ≡ c .matches .result
-judged c =
-    ap (λ (d : Device). isImage d (now (c .before .before .before .before .before .before .before .args .state))) (sym (c .before .before .decode .ensures)) ∙ sym (c .matches .ensures)
+judged c = compared _ _ _ (c .before .before .decode .ensures) (c .matches .ensures)
 
 decode-requires : tie.Need-decode-requires
 decode-requires c κs = search needs

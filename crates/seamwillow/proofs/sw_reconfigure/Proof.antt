@@ -1,0 +1,84 @@
+-- `seamwillow::sw_reconfigure` meets its contract: an image that is accepted is reconfigured and written back, any other is refused.
+-- By the law of each of the two cases, from what the calls ensure.
+use mathlib.Core.Path.{_≡_, _∙_, refl, ap}
+use borrow.Author.Tests.{not-true, not-false}
+use borrow.Author.Needs.{needs}
+use denote.Ref.{now}
+use Rattle.answers.specs.Changes.{changeNumber, changeValue}
+use Rattle.device.specs.declared.Device.{Device}
+use Rattle.layout.specs.Range.{range}
+use Rattle.image.specs.Image.{encoded}
+use Rattle.image.specs.Compare.{accepted}
+use Rattle.seamwillow.specs.Records.{compared, reconfigured-refused, reconfigured-done}
+use Rattle.seamwillow.proofs.sw_reconfigure.Statement.{statement}
+use Rattle.seamwillow.proofs.sw_reconfigure.Tie as tie
+
+-- what `matches` answers of the decoded record is whether the image is accepted
+judged : (c : tie.After-matches) → accepted (now (c .before .before .before .before .before .before .before .before .args .state)) ≡ c .matches .result
+judged c = compared _ _ _ (c .before .before .decode .ensures) (c .matches .ensures)
+
+decode-requires : tie.Need-decode-requires
+decode-requires c κs = search needs
+
+matches-requires : tie.Need-matches-requires
+matches-requires c κs = search needs
+
+same-length : tie.Need-same-length
+same-length c = search needs
+
+returns : tie.Need-returns
+unfolding changeNumber changeValue
+returns c =
+    let a = c .before .before .before .before .before .before .before .before .before .args in
+    rw (reconfigured-refused (now (a .state)) (now (a .memory)) (range (a .first) (a .count)) (now (a .layout)) (now (a .out)) (judged (c .before) ∙ not-true _ (c .if1 .taken))) (refl, (refl, (refl, (refl, refl))))
+
+reconfigure-requires : tie.Need-reconfigure-requires
+reconfigure-requires c κs = search needs
+
+encode-requires : tie.Need-encode-requires
+encode-requires c κs = search needs
+
+change-value-requires : tie.Need-change-value-requires
+change-value-requires c κs = search needs
+
+change-number-requires : tie.Need-change-number-requires
+change-number-requires c κs = search needs
+
+same-length-2 : tie.Need-same-length-2
+same-length-2 c = search needs
+
+same-length-3 : tie.Need-same-length-3
+same-length-3 c = search needs
+
+same-length-4 : tie.Need-same-length-4
+same-length-4 c = search needs
+
+returns-2 : tie.Need-returns-2
+returns-2 c =
+    let a = c .before .before .before .before .before .before .before .before .before .before .before .before .before .before .before .before .before .before .before .before .before .before .before .args in
+    let device = c .before .before .before .before .before .before .before .before .before .before .before .before .before .before .before .before .before .decode .ensures in
+    let done = c .before .before .before .before .before .before .before .before .before .before .before .reconfigure .ensures in
+    rw (reconfigured-done (now (a .state)) (now (a .memory)) (range (a .first) (a .count)) (now (a .layout)) (now (a .out)) (judged (c .before .before .before .before .before .before .before .before .before .before .before .before .before .before .before) ∙ not-false _ (c .before .before .before .before .before .before .before .before .before .before .before .before .before .before .if1 .left)), ← device) (
+      c .change-number .ensures ∙ ap changeNumber (done .0),
+      (
+        c .before .before .before .before .encode .ensures ∙ ap (λ (d : Device). encoded d (now (a .state))) (done .1 .0),
+        (done .1 .1 .0, (done .1 .1 .1 .0, c .before .change-value .ensures ∙ ap changeValue (done .0))),
+      ),
+    )
+
+pub sw-reconfigure-spec : {M : Type 1} → statement M
+sw-reconfigure-spec =
+    tie.close
+    (tie.spec
+    decode-requires
+    matches-requires
+    same-length
+    returns
+    reconfigure-requires
+    encode-requires
+    change-value-requires
+    change-number-requires
+    same-length-2
+    same-length-3
+    same-length-4
+    returns-2)
