@@ -13,3 +13,4 @@ pub mod Demand3
 pub mod Reconfigured
 pub mod Promise
 pub mod Corollaries
+pub mod Throughout
