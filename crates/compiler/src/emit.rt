@@ -59,7 +59,7 @@ fn put_address(table: &[u16; 256], output: &mut [u8], pen: Pen, device: u32, fra
     put_write(table, output, pen, Register::Far, address)
 }
 
-// Writes the frame in hand to each further target, read from an offset on.
+// Writes FAR and MFWR for each further target, read from an offset on.
 fn put_further(
     table: &[u16; 256],
     output: &mut [u8],
@@ -92,7 +92,7 @@ fn put_further(
     last
 }
 
-// Writes the frame in hand to each target, read from an offset on.
+// Writes FAR and MFWR for each target, with CMD MFWR at the first, read from an offset on.
 fn put_spread(
     table: &[u16; 256],
     output: &mut [u8],

@@ -51,71 +51,71 @@ unfolding word dataWord fdriWord
 ends left filled c w hl = simp (le-leb left 1 (omega arith))
 
 -- the buffer's words that count, with one kept
-kept-words : (l i w : ℕ) (f hand : List ℕ) → i < l → take l f ≡ hand → take l (set f i w) ≡ set hand i w
-kept-words l i w f hand h e = take-set-lt l f i w h ∙ ap (λ (xs : List ℕ). set xs i w) e
+kept-words : (l i w : ℕ) (f buffer : List ℕ) → i < l → take l f ≡ buffer → take l (set f i w) ≡ set buffer i w
+kept-words l i w f buffer h e = take-set-lt l f i w h ∙ ap (λ (xs : List ℕ). set xs i w) e
 
 -- ---- one word
 
-module _ (d v k left filled w : ℕ) (b : Bool) (hand m : List ℕ) (small : w < 2 ^ 32) where
+module _ (d v k left filled w : ℕ) (b : Bool) (buffer m : List ℕ) (small : w < 2 ^ 32) where
   -- it only fills
   pub fill-word : (n : Current) → 1 < left → filled + 1 < lengthAt d
-      → Leads (filling left filled d v k n b hand) m (w ∷ []) (filling (left - 1) (filled + 1) d (feed v 2 w) k n b (set hand filled w)) m
+      → Leads (filling left filled d v k n b buffer) m (w ∷ []) (filling (left - 1) (filled + 1) d (feed v 2 w) k n b (set buffer filled w)) m
   unfolding takesWords fedWords lastOf hold fedCrc addressOf buffered stored
   fill-word n hl hf =
       record {
         from = λ e h.
             let device : e .control .device ≡ d = ap (λ (s : State). s .device) h in
-            let words = kept-words (lengthAt (e .control .device)) filled w (e .frame) hand (rw device (omega arith)) (ap (λ (s : State). s .words) h) in
+            let words = kept-words (lengthAt (e .control .device)) filled w (e .frame) buffer (rw device (omega arith)) (ap (λ (s : State). s .words) h) in
             record {
               next = record { phase = Phase.Data Register.Fdri (left - 1) (filled + 1); control = put Register.Fdri w (e .control); frame = set (e .frame) filled w };
               goes = word-goes e m w _ h refl small (fills left filled (e .control) w hl (rw device hf));
               seen = rw (words, length-set)
-                  (ap (λ (s : State). moved (Phase.Data Register.Fdri (left - 1) (filled + 1)) (feed (s .crc) 2 w) (s .cmd) (s .current) (s .valid) (set hand filled w) s) h);
+                  (ap (λ (s : State). moved (Phase.Data Register.Fdri (left - 1) (filled + 1)) (feed (s .crc) 2 w) (s .cmd) (s .current) (s .valid) (set buffer filled w) s) h);
             };
       }
 
   -- it completes a frame that is stored
   pub store-word : (n : ℕ) → 1 < left → filled + 1 ≡ lengthAt d → 4 * lengthAt d * n + 4 * lengthAt d ≤ length m
-      → Leads (filling left filled d v k (Current.Frame n) b hand) m (w ∷ [])
-      (filling (left - 1) 0 d (feed v 2 w) k (stepped d n) b (set hand filled w)) (placed (lengthAt d) n (bytesOf (set hand filled w)) m)
+      → Leads (filling left filled d v k (Current.Frame n) b buffer) m (w ∷ [])
+      (filling (left - 1) 0 d (feed v 2 w) k (stepped d n) b (set buffer filled w)) (placed (lengthAt d) n (bytesOf (set buffer filled w)) m)
   unfolding takesWords hold fedCrc addressOf buffered stored storeWithin
   store-word n hl hf fits =
       record {
         from = λ e h.
             let device : e .control .device ≡ d = ap (λ (s : State). s .device) h in
-            let words = kept-words (lengthAt (e .control .device)) filled w (e .frame) hand (rw device (omega arith)) (ap (λ (s : State). s .words) h) in
+            let words = kept-words (lengthAt (e .control .device)) filled w (e .frame) buffer (rw device (omega arith)) (ap (λ (s : State). s .words) h) in
             let c = withCurrent (stepped (e .control .device) n) (put Register.Fdri w (e .control)) in
-            let kept : storeWithin (lengthAt (e .control .device)) n (set (e .frame) filled w) m ≡ placed (lengthAt d) n (bytesOf (set hand filled w)) m
+            let kept : storeWithin (lengthAt (e .control .device)) n (set (e .frame) filled w) m ≡ placed (lengthAt d) n (bytesOf (set buffer filled w)) m
             = rw device (simp (le-leb _ _ fits, rw device at words)) in
             record {
               next = record { phase = Phase.Data Register.Fdri (left - 1) 0; control = c; frame = set (e .frame) filled w };
               goes = rw (← kept) (word-goes e m w _ h refl small (stores left filled (e .control) w n hl (rw device hf) (ap (λ (s : State). s .current) h)));
               seen = rw (words, length-set)
-                  (ap (λ (s : State). moved (Phase.Data Register.Fdri (left - 1) 0) (feed (s .crc) 2 w) (s .cmd) (stepped (s .device) n) (s .valid) (set hand filled w) s) h);
+                  (ap (λ (s : State). moved (Phase.Data Register.Fdri (left - 1) 0) (feed (s .crc) 2 w) (s .cmd) (stepped (s .device) n) (s .valid) (set buffer filled w) s) h);
             };
       }
 
   -- it completes the packet's last frame, which is in hand from here on
   pub last-word : (n : Current) → left ≡ 1 → filled < lengthAt d
-      → Leads (filling left filled d v k n b hand) m (w ∷ []) (checking d (feed v 2 w) k n true (set hand filled w)) m
+      → Leads (filling left filled d v k n b buffer) m (w ∷ []) (checking d (feed v 2 w) k n true (set buffer filled w)) m
   unfolding takesWords hold fedCrc addressOf buffered stored
   last-word n hl hf =
       record {
         from = λ e h.
             let device : e .control .device ≡ d = ap (λ (s : State). s .device) h in
-            let words = kept-words (lengthAt (e .control .device)) filled w (e .frame) hand (rw device hf) (ap (λ (s : State). s .words) h) in
+            let words = kept-words (lengthAt (e .control .device)) filled w (e .frame) buffer (rw device hf) (ap (λ (s : State). s .words) h) in
             let c = put Register.Fdri w (e .control) in
             record {
               next = record { phase = Phase.Crc; control = withFlags (withBufferValid (c .flags)) c; frame = set (e .frame) filled w };
               goes = word-goes e m w _ h refl small (ends left filled (e .control) w hl);
-              seen = rw (words, length-set) (ap (λ (s : State). moved Phase.Crc (feed (s .crc) 2 w) (s .cmd) (s .current) true (set hand filled w) s) h);
+              seen = rw (words, length-set) (ap (λ (s : State). moved Phase.Crc (feed (s .crc) 2 w) (s .cmd) (s .current) true (set buffer filled w) s) h);
             };
       }
 
 -- the auto CRC word, which passes
-pub auto-leads : (d v k : ℕ) (n : Current) (b : Bool) (hand m : List ℕ) → Leads (checking d v k n b hand) m (checkWord v ∷ []) (waiting d 0 k n b hand) m
+pub auto-leads : (d v k : ℕ) (n : Current) (b : Bool) (buffer m : List ℕ) → Leads (checking d v k n b buffer) m (checkWord v ∷ []) (waiting d 0 k n b buffer) m
 unfolding takesWords word checked buffered stored
-auto-leads d v k n b hand m =
+auto-leads d v k n b buffer m =
     record {
       from = λ e h.
           record {

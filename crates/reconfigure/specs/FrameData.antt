@@ -51,12 +51,12 @@ unfolding word obeyed begin ready counted addressOf
 second-header c q positive small idcode flr cmd whole = simp (header-two Register.Fdri q small, ne-eqb q 0 (omega arith), idcode, flr, cmd, whole)
 
 -- the headers begin a packet of q words, which are whole frames
-headers-lead : (d v q : ℕ) (n : Current) (b : Bool) (hand m : List ℕ) → 0 < q → q < 2 ^ 27 → q % lengthAt d ≡ 0
-    → Leads (waiting d v 1 n b hand) m (header1 Register.Fdri 0 ∷ header2 q ∷ []) (filling q 0 d v 1 n b hand) m
+headers-lead : (d v q : ℕ) (n : Current) (b : Bool) (buffer m : List ℕ) → 0 < q → q < 2 ^ 27 → q % lengthAt d ≡ 0
+    → Leads (waiting d v 1 n b buffer) m (header1 Register.Fdri 0 ∷ header2 q ∷ []) (filling q 0 d v 1 n b buffer) m
 unfolding takesWords buffered stored
-headers-lead d v q n b hand m positive small whole = leads-on one two
+headers-lead d v q n b buffer m positive small whole = leads-on one two
   where
-    one : Leads (waiting d v 1 n b hand) m (header1 Register.Fdri 0 ∷ []) (stands (Phase.Header (Open.After Register.Fdri)) d v 1 n b hand) m
+    one : Leads (waiting d v 1 n b buffer) m (header1 Register.Fdri 0 ∷ []) (stands (Phase.Header (Open.After Register.Fdri)) d v 1 n b buffer) m
     one = record {
       from = λ e h.
           record {
@@ -66,7 +66,7 @@ headers-lead d v q n b hand m positive small whole = leads-on one two
           };
     }
 
-    two : Leads (stands (Phase.Header (Open.After Register.Fdri)) d v 1 n b hand) m (header2 q ∷ []) (filling q 0 d v 1 n b hand) m
+    two : Leads (stands (Phase.Header (Open.After Register.Fdri)) d v 1 n b buffer) m (header2 q ∷ []) (filling q 0 d v 1 n b buffer) m
     two = record {
       from = λ e h.
           let device : e .control .device ≡ d = ap (λ (s : State). s .device) h in
@@ -87,8 +87,8 @@ reached d n c (x ∷ xs) = reached d (n + 1) (stepped d n) xs
 
 -- the words in the buffer after them
 unfoldable pub held : ℕ → List ℕ → List (List ℕ) → List ℕ
-held l hand [] = hand
-held l hand (x ∷ xs) = held l (wordsFrom l x) xs
+held l buffer [] = buffer
+held l buffer (x ∷ xs) = held l (wordsFrom l x) xs
 
 -- the first of them has a frame to stand at
 abbrev pub Aims : ℕ → Current → List (List ℕ) → Type 0
@@ -100,54 +100,54 @@ unfolding stepped
 aims-next d n [] h = tt
 aims-next d n (x ∷ xs) h = simp (lt-ltb (n + 1) (countAt d) (omega arith))
 
-held-length : (l : ℕ) (hand : List ℕ) (fs : List (List ℕ)) → length hand ≡ l → length (held l hand fs) ≡ l
+held-length : (l : ℕ) (buffer : List ℕ) (fs : List (List ℕ)) → length buffer ≡ l → length (held l buffer fs) ≡ l
 unfolding held
-held-length l hand [] h = h
-held-length l hand (x ∷ xs) h = held-length l (wordsFrom l x) xs (words-length l x)
+held-length l buffer [] h = h
+held-length l buffer (x ∷ xs) h = held-length l (wordsFrom l x) xs (words-length l x)
 
 module _ (d k : ℕ) (b : Bool) (positive : 0 < lengthAt d) where
   -- one of them, with j words after it
-  one-frame : (v j n : ℕ) (x hand m : List ℕ) → 0 < j → n < countAt d → AreBytes x → length x ≡ 4 * lengthAt d → length hand ≡ lengthAt d → length m ≡ 4 * lengthAt d * countAt d
-      → Leads (filling (j + lengthAt d) 0 d v k (Current.Frame n) b hand) m (wordsFrom (lengthAt d) x)
+  one-frame : (v j n : ℕ) (x buffer m : List ℕ) → 0 < j → n < countAt d → AreBytes x → length x ≡ 4 * lengthAt d → length buffer ≡ lengthAt d → length m ≡ 4 * lengthAt d * countAt d
+      → Leads (filling (j + lengthAt d) 0 d v k (Current.Frame n) b buffer) m (wordsFrom (lengthAt d) x)
       (filling j 0 d (fedWords v 2 (wordsFrom (lengthAt d) x)) k (stepped d n) b (wordsFrom (lengthAt d) x)) (placed (lengthAt d) n x m)
-  one-frame v j n x hand m more inside bytes size full room =
+  one-frame v j n x buffer m more inside bytes size full room =
       rw (bytes-words (lengthAt d) x bytes size) at
-      (stored-frame d v k b hand (wordsFrom (lengthAt d) x) m positive (words-small (lengthAt d) x bytes) (words-length (lengthAt d) x) full j n more
+      (stored-frame d v k b buffer (wordsFrom (lengthAt d) x) m positive (words-small (lengthAt d) x bytes) (words-length (lengthAt d) x) full j n more
       (omega (arith, frame-end (lengthAt d) n (countAt d) inside)))
 
   -- none of them, and one with the others after it
-  no-frames : (v j : ℕ) (c : Current) (hand m : List ℕ) → Leads (filling (j + 0 * lengthAt d) 0 d v k c b hand) m [] (filling j 0 d v k c b hand) m
-  no-frames v j c hand m = let none : j + 0 * lengthAt d ≡ j = omega arith in rw none leads-none
+  no-frames : (v j : ℕ) (c : Current) (buffer m : List ℕ) → Leads (filling (j + 0 * lengthAt d) 0 d v k c b buffer) m [] (filling j 0 d v k c b buffer) m
+  no-frames v j c buffer m = let none : j + 0 * lengthAt d ≡ j = omega arith in rw none leads-none
 
-  then-frames : (v j n : ℕ) (x hand m : List ℕ) (xs : List (List ℕ)) (c c′ : Current) (hand′ r : List ℕ) → 0 < j → n < countAt d → AreBytes x
-      → length x ≡ 4 * lengthAt d → length hand ≡ lengthAt d → length m ≡ 4 * lengthAt d * countAt d → c ≡ Current.Frame n
+  then-frames : (v j n : ℕ) (x buffer m : List ℕ) (xs : List (List ℕ)) (c c′ : Current) (buffer′ r : List ℕ) → 0 < j → n < countAt d → AreBytes x
+      → length x ≡ 4 * lengthAt d → length buffer ≡ lengthAt d → length m ≡ 4 * lengthAt d * countAt d → c ≡ Current.Frame n
       → Leads (filling (j + length xs * lengthAt d) 0 d (fedWords v 2 (wordsFrom (lengthAt d) x)) k (stepped d n) b (wordsFrom (lengthAt d) x)) (placed (lengthAt d) n x m)
-      (framesWords (lengthAt d) xs) (filling j 0 d (fedWords (fedWords v 2 (wordsFrom (lengthAt d) x)) 2 (framesWords (lengthAt d) xs)) k c′ b hand′) r
-      → Leads (filling (j + suc (length xs) * lengthAt d) 0 d v k c b hand) m (wordsFrom (lengthAt d) x ++ framesWords (lengthAt d) xs)
-      (filling j 0 d (fedWords v 2 (wordsFrom (lengthAt d) x ++ framesWords (lengthAt d) xs)) k c′ b hand′) r
-  then-frames v j n x hand m xs c c′ hand′ r more inside bytes size full room at others =
+      (framesWords (lengthAt d) xs) (filling j 0 d (fedWords (fedWords v 2 (wordsFrom (lengthAt d) x)) 2 (framesWords (lengthAt d) xs)) k c′ b buffer′) r
+      → Leads (filling (j + suc (length xs) * lengthAt d) 0 d v k c b buffer) m (wordsFrom (lengthAt d) x ++ framesWords (lengthAt d) xs)
+      (filling j 0 d (fedWords v 2 (wordsFrom (lengthAt d) x ++ framesWords (lengthAt d) xs)) k c′ b buffer′) r
+  then-frames v j n x buffer m xs c c′ buffer′ r more inside bytes size full room at others =
       let sum : j + length xs * lengthAt d + lengthAt d ≡ j + suc (length xs) * lengthAt d = omega (arith, suc-mul (length xs) (lengthAt d)) in
       rw (at, ← fed-append v 2 (wordsFrom (lengthAt d) x) (framesWords (lengthAt d) xs))
-      (leads-on (rw sum at (one-frame v (j + length xs * lengthAt d) n x hand m (omega arith) inside bytes size full room)) others)
+      (leads-on (rw sum at (one-frame v (j + length xs * lengthAt d) n x buffer m (omega arith) inside bytes size full room)) others)
 
   kept-room : (n : ℕ) (x m : List ℕ) → n < countAt d → length x ≡ 4 * lengthAt d → length m ≡ 4 * lengthAt d * countAt d
       → length (placed (lengthAt d) n x m) ≡ 4 * lengthAt d * countAt d
   kept-room n x m inside size room = placed-length (lengthAt d) n x m (omega (arith, frame-end (lengthAt d) n (countAt d) inside)) size ∙ room
 
-  pub frames-lead : (fs : List (List ℕ)) (v j n : ℕ) (c : Current) (hand m : List ℕ) → 0 < j → n + length fs ≤ countAt d → Aims n c fs → AllBytes fs → Sized (lengthAt d) fs
-      → length hand ≡ lengthAt d → length m ≡ 4 * lengthAt d * countAt d
-      → Leads (filling (j + length fs * lengthAt d) 0 d v k c b hand) m (framesWords (lengthAt d) fs)
-      (filling j 0 d (fedWords v 2 (framesWords (lengthAt d) fs)) k (reached d n c fs) b (held (lengthAt d) hand fs)) (written (lengthAt d) n fs m)
+  pub frames-lead : (fs : List (List ℕ)) (v j n : ℕ) (c : Current) (buffer m : List ℕ) → 0 < j → n + length fs ≤ countAt d → Aims n c fs → AllBytes fs → Sized (lengthAt d) fs
+      → length buffer ≡ lengthAt d → length m ≡ 4 * lengthAt d * countAt d
+      → Leads (filling (j + length fs * lengthAt d) 0 d v k c b buffer) m (framesWords (lengthAt d) fs)
+      (filling j 0 d (fedWords v 2 (framesWords (lengthAt d) fs)) k (reached d n c fs) b (held (lengthAt d) buffer fs)) (written (lengthAt d) n fs m)
   unfolding framesWords fedWords reached held written
-  frames-lead [] v j n c hand m more inside at bytes sized full room = no-frames v j c hand m
-  frames-lead (x ∷ xs) v j n c hand m more inside at bytes sized full room =
-      then-frames v j n x hand m xs c _ _ _ more (omega arith) (bytes .0) (sized .0) full room at
+  frames-lead [] v j n c buffer m more inside at bytes sized full room = no-frames v j c buffer m
+  frames-lead (x ∷ xs) v j n c buffer m more inside at bytes sized full room =
+      then-frames v j n x buffer m xs c _ _ _ more (omega arith) (bytes .0) (sized .0) full room at
       (frames-lead xs (fedWords v 2 (wordsFrom (lengthAt d) x)) j (n + 1) (stepped d n) (wordsFrom (lengthAt d) x) (placed (lengthAt d) n x m) more (omega arith)
       (aims-next d n xs (omega arith)) (bytes .1) (sized .1) (words-length (lengthAt d) x) (kept-room n x m (omega arith) (sized .0) room))
 
 -- ---- the packet
 
-module _ (d v n : ℕ) (c : Current) (b : Bool) (fs : List (List ℕ)) (ws hand m : List ℕ) (positive : 0 < lengthAt d) (full : length hand ≡ lengthAt d)
+module _ (d v n : ℕ) (c : Current) (b : Bool) (fs : List (List ℕ)) (ws buffer m : List ℕ) (positive : 0 < lengthAt d) (full : length buffer ≡ lengthAt d)
     (room : length m ≡ 4 * lengthAt d * countAt d) (inside : n + length fs ≤ countAt d) (at : Aims n c fs) (bytes : AllBytes fs) (sized : Sized (lengthAt d) fs)
     (small : AreWords ws) (size : length ws ≡ lengthAt d) where
   abbrev all : List ℕ
@@ -157,20 +157,20 @@ module _ (d v n : ℕ) (c : Current) (b : Bool) (fs : List (List ℕ)) (ws hand 
   count = omega (arith, length-append (framesWords (lengthAt d) fs) ws, frames-words (lengthAt d) fs, suc-mul (length fs) (lengthAt d))
 
   -- the frames, and the last one
-  words-lead : Leads (filling (length all) 0 d v 1 c b hand) m all (stands Phase.Crc d (fedWords v 2 all) 1 (reached d n c fs) true ws) (written (lengthAt d) n fs m)
+  words-lead : Leads (filling (length all) 0 d v 1 c b buffer) m all (stands Phase.Crc d (fedWords v 2 all) 1 (reached d n c fs) true ws) (written (lengthAt d) n fs m)
   words-lead =
       let sum : length all ≡ lengthAt d + length fs * lengthAt d = omega (arith, count, suc-mul (length fs) (lengthAt d)) in
       rw (sum, ← fed-append v 2 (framesWords (lengthAt d) fs) ws)
-      (leads-on (frames-lead d 1 b positive fs v (lengthAt d) n c hand m positive inside at bytes sized full room)
-      (last-frame d (fedWords v 2 (framesWords (lengthAt d) fs)) 1 b (held (lengthAt d) hand fs) ws (written (lengthAt d) n fs m) positive small size
-      (held-length (lengthAt d) hand fs full) (reached d n c fs)))
+      (leads-on (frames-lead d 1 b positive fs v (lengthAt d) n c buffer m positive inside at bytes sized full room)
+      (last-frame d (fedWords v 2 (framesWords (lengthAt d) fs)) 1 b (held (lengthAt d) buffer fs) ws (written (lengthAt d) n fs m) positive small size
+      (held-length (lengthAt d) buffer fs full) (reached d n c fs)))
 
-  pub data-leads : Leads (waiting d v 1 c b hand) m (packetWords v (Packet.FrameData all)) (waiting d 0 1 (reached d n c fs) true ws) (written (lengthAt d) n fs m)
+  pub data-leads : Leads (waiting d v 1 c b buffer) m (packetWords v (Packet.FrameData all)) (waiting d 0 1 (reached d n c fs) true ws) (written (lengthAt d) n fs m)
   unfolding packetWords addressOf
   data-leads =
       let some : 0 < length all = omega (arith, count, suc-mul (length fs) (lengthAt d)) in
       let few : suc (length fs) ≤ 1946 = omega (arith, count-fits d) in
       let most = mul-le-mul few (length-fits d) in
       let whole : length all % lengthAt d ≡ 0 = rw count (mul-mod-left (suc (length fs)) (lengthAt d)) in
-      leads-on (headers-lead d v (length all) c b hand m some (omega (arith, count, most)) whole)
+      leads-on (headers-lead d v (length all) c b buffer m some (omega (arith, count, most)) whole)
       (leads-on words-lead (auto-leads d (fedWords v 2 all) 1 (reached d n c fs) true ws (written (lengthAt d) n fs m)))

@@ -85,7 +85,7 @@ moved phase crc cmd current valid words s = record {
 }
 
 -- a word leads where the control machine takes it
-pub word-goes : {p : Phase} {d v k : ℕ} {n : Current} {b : Bool} {hand : List ℕ} (e : Device) (m : List ℕ) (w : ℕ) (x : Fed) → view e ≡ stands p d v k n b hand
+pub word-goes : {p : Phase} {d v k : ℕ} {n : Current} {b : Bool} {buffer : List ℕ} (e : Device) (m : List ℕ) (w : ℕ) (x : Fed) → view e ≡ stands p d v k n b buffer
     → takesWords p ≡ true → w < 2 ^ 32 → word p (e .control) w ≡ x → Goes e m (w ∷ []) (deviceAfter x e) (memoryAfter x e m)
 word-goes e m w x h takes small made =
     let phase = ap (λ (s : State). s .phase) h in

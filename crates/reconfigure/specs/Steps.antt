@@ -59,12 +59,12 @@ frame-named d n known inside =
     record { names = rw a (ap currentOf (number-address-number d n (found .0) (found .1))); small = omega (arith, fits, a) }
 
 module _ (d : ℕ) (known : d ≤ 7) where
-  far-leads : (v k n : ℕ) (c : Current) (b : Bool) (hand m : List ℕ) → Quiet k → n < countAt d
-      → Leads (waiting d v k c b hand) m (packetWords v (toFrame d n)) (waiting d (crcOf v (toFrame d n)) k (Current.Frame n) b hand) m
-  far-leads v k n c b hand m quiet inside =
+  far-leads : (v k n : ℕ) (c : Current) (b : Bool) (buffer m : List ℕ) → Quiet k → n < countAt d
+      → Leads (waiting d v k c b buffer) m (packetWords v (toFrame d n)) (waiting d (crcOf v (toFrame d n)) k (Current.Frame n) b buffer) m
+  far-leads v k n c b buffer m quiet inside =
       let f = frame-named d n known inside in
-      subst (λ (at : Current). Leads (waiting d v k c b hand) m (packetWords v (toFrame d n)) (waiting d (crcOf v (toFrame d n)) k at b hand) m) (f .names)
-      (address-leads d v k c b hand m (addressTold (frameAddress d n)) quiet (f .small))
+      subst (λ (at : Current). Leads (waiting d v k c b buffer) m (packetWords v (toFrame d n)) (waiting d (crcOf v (toFrame d n)) k at b buffer) m) (f .names)
+      (address-leads d v k c b buffer m (addressTold (frameAddress d n)) quiet (f .small))
 
   -- ---- targets, with the frame in hand
 
@@ -78,36 +78,36 @@ module _ (d : ℕ) (known : d ≤ 7) where
   lastOf c (t ∷ ts) = lastOf (Current.Frame t) ts
 
   module _ (x : List ℕ) (bytes : AreBytes x) (size : length x ≡ 4 * lengthAt d) where
-    abbrev hand : List ℕ
-    hand = wordsFrom (lengthAt d) x
+    abbrev buffer : List ℕ
+    buffer = wordsFrom (lengthAt d) x
 
     -- MFWR at a target
     target-leads : (v t : ℕ) (m : List ℕ) → t < countAt d → length m ≡ 4 * lengthAt d * countAt d
-        → Leads (waiting d v 2 (Current.Frame t) true hand) m (packetWords v Packet.MultiFrame) (waiting d (crcOf v Packet.MultiFrame) 2 (Current.Frame t) true hand) (placed (lengthAt d) t x m)
-    target-leads v t m inside room = rw (bytes-words (lengthAt d) x bytes size) at (multi-leads d v t hand m (fits t m inside room))
+        → Leads (waiting d v 2 (Current.Frame t) true buffer) m (packetWords v Packet.MultiFrame) (waiting d (crcOf v Packet.MultiFrame) 2 (Current.Frame t) true buffer) (placed (lengthAt d) t x m)
+    target-leads v t m inside room = rw (bytes-words (lengthAt d) x bytes size) at (multi-leads d v t buffer m (fits t m inside room))
 
     placed-room : (t : ℕ) (m : List ℕ) → t < countAt d → length m ≡ 4 * lengthAt d * countAt d → length (placed (lengthAt d) t x m) ≡ 4 * lengthAt d * countAt d
     placed-room t m inside room = placed-length (lengthAt d) t x m (fits t m inside room) size ∙ room
 
     further-lead : (own : ℕ → Bool) (ts : List ℕ) (low v : ℕ) (c : Current) (m : List ℕ) → Targets (lengthAt d) (countAt d) own low ts → length m ≡ 4 * lengthAt d * countAt d
-        → Leads (waiting d v 2 c true hand) m (packetsWords v (further d ts)) (waiting d (crcAfter v (further d ts)) 2 (lastOf c ts) true hand) (spread (lengthAt d) x ts m)
+        → Leads (waiting d v 2 c true buffer) m (packetsWords v (further d ts)) (waiting d (crcAfter v (further d ts)) 2 (lastOf c ts) true buffer) (spread (lengthAt d) x ts m)
     unfolding further crcAfter lastOf spread
     further-lead own [] low v c m targets room = no-packets v
     further-lead own (t ∷ ts) low v c m targets room =
-        then-packets v (toFrame d t) _ (far-leads v 2 t c true hand m mfwr-quiet (targets .1))
+        then-packets v (toFrame d t) _ (far-leads v 2 t c true buffer m mfwr-quiet (targets .1))
         (then-packets (crcOf v (toFrame d t)) Packet.MultiFrame (further d ts) (target-leads (crcOf v (toFrame d t)) t m (targets .1) room)
         (further-lead own ts (t + 1) (crcOf (crcOf v (toFrame d t)) Packet.MultiFrame) (Current.Frame t) (placed (lengthAt d) t x m) (targets .3) (placed-room t m (targets .1) room)))
 
     -- the first target, for which CMD is written, and the others
     spread-lead : (own : ℕ → Bool) (t : ℕ) (ts : List ℕ) (v : ℕ) (c : Current) (m : List ℕ) → Targets (lengthAt d) (countAt d) own 0 (t ∷ ts) → length m ≡ 4 * lengthAt d * countAt d
-        → Leads (waiting d v 1 c true hand) m (packetsWords v (spreadPackets d (t ∷ ts)))
-        (waiting d (crcAfter v (spreadPackets d (t ∷ ts))) 2 (lastOf (Current.Frame t) ts) true hand) (spread (lengthAt d) x (t ∷ ts) m)
+        → Leads (waiting d v 1 c true buffer) m (packetsWords v (spreadPackets d (t ∷ ts)))
+        (waiting d (crcAfter v (spreadPackets d (t ∷ ts))) 2 (lastOf (Current.Frame t) ts) true buffer) (spread (lengthAt d) x (t ∷ ts) m)
     unfolding spreadPackets crcAfter spread
     spread-lead own t ts v c m targets room =
         let v₁ = crcOf v (toFrame d t) in
         let v₂ = crcOf v₁ (Packet.Command 2) in
-        then-packets v (toFrame d t) _ (far-leads v 1 t c true hand m wcfg-quiet (targets .1))
-        (then-packets v₁ (Packet.Command 2) _ (command-leads d v₁ 1 (Current.Frame t) true hand m 2 mfwr-quiet)
+        then-packets v (toFrame d t) _ (far-leads v 1 t c true buffer m wcfg-quiet (targets .1))
+        (then-packets v₁ (Packet.Command 2) _ (command-leads d v₁ 1 (Current.Frame t) true buffer m 2 mfwr-quiet)
         (then-packets v₂ Packet.MultiFrame (further d ts) (target-leads v₂ t m (targets .1) room)
         (further-lead own ts (t + 1) (crcOf v₂ Packet.MultiFrame) (Current.Frame t) (placed (lengthAt d) t x m) (targets .3) (placed-room t m (targets .1) room))))
 
@@ -118,9 +118,9 @@ pub record Reached (d v : ℕ) (s : State) (m ws k : List ℕ) : Type 0 where
   pub cmd : ℕ
   pub current : Current
   pub valid : Bool
-  pub hand : List ℕ
-  pub full : length hand ≡ lengthAt d
-  pub leads : Leads s m ws (waiting d v cmd current valid hand) k
+  pub buffer : List ℕ
+  pub full : length buffer ≡ lengthAt d
+  pub leads : Leads s m ws (waiting d v cmd current valid buffer) k
 
 aims-any : (n : ℕ) (fs : List (List ℕ)) → Aims n (Current.Frame n) fs
 aims-any n [] = tt
@@ -134,9 +134,9 @@ module _ (d : ℕ) (known : d ≤ 7) (own : ℕ → Bool) where
   positive : 0 < lengthAt d
   positive = figures d known .length-positive
 
-  module _ (v k : ℕ) (c : Current) (b : Bool) (hand m : List ℕ) (full : length hand ≡ lengthAt d) (room : length m ≡ 4 * lengthAt d * countAt d) where
+  module _ (v k : ℕ) (c : Current) (b : Bool) (buffer m : List ℕ) (full : length buffer ≡ lengthAt d) (room : length m ≡ 4 * lengthAt d * countAt d) where
     write-reached : (n : ℕ) (fs : List (List ℕ)) → FitsWrite (lengthAt d) (countAt d) own n fs → ByteStep (FrameWrite n fs)
-        → Reached d (crcAfter v (stepPackets d (FrameWrite n fs))) (waiting d v k c b hand) m (packetsWords v (stepPackets d (FrameWrite n fs))) (written (lengthAt d) n fs m)
+        → Reached d (crcAfter v (stepPackets d (FrameWrite n fs))) (waiting d v k c b buffer) m (packetsWords v (stepPackets d (FrameWrite n fs))) (written (lengthAt d) n fs m)
     unfolding stepPackets crcAfter crcOf
     write-reached n fs fit bytes =
         let v₁ = crcOf v (Packet.Command 1) in
@@ -146,17 +146,17 @@ module _ (d : ℕ) (known : d ≤ 7) (own : ℕ → Bool) where
           cmd = 1;
           current = reached d n (Current.Frame n) fs;
           valid = true;
-          hand = zeros;
+          buffer = zeros;
           full = length-replicate (lengthAt d) 0;
-          leads = then-packets v (Packet.Command 1) _ (command-leads d v k c b hand m 1 wcfg-quiet)
-              (then-packets v₁ (toFrame d n) _ (far-leads d known v₁ 1 n c b hand m wcfg-quiet (omega (arith, fit .part, fit .positive)))
+          leads = then-packets v (Packet.Command 1) _ (command-leads d v k c b buffer m 1 wcfg-quiet)
+              (then-packets v₁ (toFrame d n) _ (far-leads d known v₁ 1 n c b buffer m wcfg-quiet (omega (arith, fit .part, fit .positive)))
               (then-packets v₂ (Packet.FrameData (framesWords (lengthAt d) fs ++ zeros)) []
-              (data-leads d v₂ n (Current.Frame n) b fs zeros hand m positive full room (fit .part) (aims-any n fs) bytes (fit .sized) (zero-words (lengthAt d)) (length-replicate (lengthAt d) 0))
+              (data-leads d v₂ n (Current.Frame n) b fs zeros buffer m positive full room (fit .part) (aims-any n fs) bytes (fit .sized) (zero-words (lengthAt d)) (length-replicate (lengthAt d) 0))
               (no-packets 0)));
         }
 
     multi-reached : (x : List ℕ) (t : ℕ) (ts : List ℕ) → FitsMulti (lengthAt d) (countAt d) own x (t ∷ ts) → AreBytes x
-        → Reached d (crcAfter v (stepPackets d (MultiFrameWrite x (t ∷ ts)))) (waiting d v k c b hand) m (packetsWords v (stepPackets d (MultiFrameWrite x (t ∷ ts))))
+        → Reached d (crcAfter v (stepPackets d (MultiFrameWrite x (t ∷ ts)))) (waiting d v k c b buffer) m (packetsWords v (stepPackets d (MultiFrameWrite x (t ∷ ts))))
         (spread (lengthAt d) x (t ∷ ts) m)
     unfolding stepPackets crcAfter crcOf framesWords reached written
     multi-reached x t ts fit bytes =
@@ -166,16 +166,16 @@ module _ (d : ℕ) (known : d ≤ 7) (own : ℕ → Bool) where
           cmd = 2;
           current = lastOf d known (Current.Frame t) ts;
           valid = true;
-          hand = ws;
+          buffer = ws;
           full = words-length (lengthAt d) x;
-          leads = then-packets v (Packet.Command 1) _ (command-leads d v k c b hand m 1 wcfg-quiet)
+          leads = then-packets v (Packet.Command 1) _ (command-leads d v k c b buffer m 1 wcfg-quiet)
               (then-packets v₁ (Packet.FrameData ws) (spreadPackets d (t ∷ ts))
-              (data-leads d v₁ 0 c b [] ws hand m positive full room (omega arith) tt tt tt (words-small (lengthAt d) x bytes) (words-length (lengthAt d) x))
+              (data-leads d v₁ 0 c b [] ws buffer m positive full room (omega arith) tt tt tt (words-small (lengthAt d) x bytes) (words-length (lengthAt d) x))
               (spread-lead d known x bytes (fit .size) own t ts 0 c m (fit .targets) room));
         }
 
     step-reached : (s : Step) → Fits (lengthAt d) (countAt d) own s → ByteStep s
-        → Reached d (crcAfter v (stepPackets d s)) (waiting d v k c b hand) m (packetsWords v (stepPackets d s)) (done (lengthAt d) s m)
+        → Reached d (crcAfter v (stepPackets d s)) (waiting d v k c b buffer) m (packetsWords v (stepPackets d s)) (done (lengthAt d) s m)
     unfolding done
     step-reached (FrameWrite n fs) fit bytes = write-reached n fs fit bytes
     step-reached (MultiFrameWrite x []) fit bytes = absurd (omega (arith, fit .positive))
@@ -183,24 +183,24 @@ module _ (d : ℕ) (known : d ≤ 7) (own : ℕ → Bool) where
 
   -- ---- the list of steps
 
-  none-reached : (v k : ℕ) (c : Current) (b : Bool) (hand m : List ℕ) → length hand ≡ lengthAt d → Reached d v (waiting d v k c b hand) m (packetsWords v []) m
-  none-reached v k c b hand m full = record { cmd = k; current = c; valid = b; hand = hand; full = full; leads = no-packets v }
+  none-reached : (v k : ℕ) (c : Current) (b : Bool) (buffer m : List ℕ) → length buffer ≡ lengthAt d → Reached d v (waiting d v k c b buffer) m (packetsWords v []) m
+  none-reached v k c b buffer m full = record { cmd = k; current = c; valid = b; buffer = buffer; full = full; leads = no-packets v }
 
   then-steps : {s : State} {m k : List ℕ} (v : ℕ) (ps qs : List Packet) (r : List ℕ) (first : Reached d (crcAfter v ps) s m (packetsWords v ps) k)
-      → Reached d (crcAfter (crcAfter v ps) qs) (waiting d (crcAfter v ps) (first .cmd) (first .current) (first .valid) (first .hand)) k (packetsWords (crcAfter v ps) qs) r
+      → Reached d (crcAfter (crcAfter v ps) qs) (waiting d (crcAfter v ps) (first .cmd) (first .current) (first .valid) (first .buffer)) k (packetsWords (crcAfter v ps) qs) r
       → Reached d (crcAfter v (ps ++ qs)) s m (packetsWords v (ps ++ qs)) r
   then-steps v ps qs r first others =
       rw (words-append v ps qs, ← crc-append v ps qs)
-      (record { cmd = others .cmd; current = others .current; valid = others .valid; hand = others .hand; full = others .full; leads = leads-on (first .leads) (others .leads) })
+      (record { cmd = others .cmd; current = others .current; valid = others .valid; buffer = others .buffer; full = others .full; leads = leads-on (first .leads) (others .leads) })
 
   -- 01: "Each step works on what the last one left"
-  pub steps-reached : (ss : List Step) (v k : ℕ) (c : Current) (b : Bool) (hand m : List ℕ) → AllFit (lengthAt d) (countAt d) own ss → ByteSteps ss
-      → length hand ≡ lengthAt d → length m ≡ 4 * lengthAt d * countAt d
-      → Reached d (crcAfter v (stepsPackets d ss)) (waiting d v k c b hand) m (packetsWords v (stepsPackets d ss)) (allDone (lengthAt d) ss m)
+  pub steps-reached : (ss : List Step) (v k : ℕ) (c : Current) (b : Bool) (buffer m : List ℕ) → AllFit (lengthAt d) (countAt d) own ss → ByteSteps ss
+      → length buffer ≡ lengthAt d → length m ≡ 4 * lengthAt d * countAt d
+      → Reached d (crcAfter v (stepsPackets d ss)) (waiting d v k c b buffer) m (packetsWords v (stepsPackets d ss)) (allDone (lengthAt d) ss m)
   unfolding stepsPackets crcAfter allDone
-  steps-reached [] v k c b hand m fit bytes full room = none-reached v k c b hand m full
-  steps-reached (s ∷ ss) v k c b hand m fit bytes full room =
-      let one = step-reached v k c b hand m full room s (fit .0) (bytes .0) in
+  steps-reached [] v k c b buffer m fit bytes full room = none-reached v k c b buffer m full
+  steps-reached (s ∷ ss) v k c b buffer m fit bytes full room =
+      let one = step-reached v k c b buffer m full room s (fit .0) (bytes .0) in
       then-steps v (stepPackets d s) (stepsPackets d ss) _ one
-      (steps-reached ss (crcAfter v (stepPackets d s)) (one .cmd) (one .current) (one .valid) (one .hand) (done (lengthAt d) s m) (fit .1) (bytes .1) (one .full)
+      (steps-reached ss (crcAfter v (stepPackets d s)) (one .cmd) (one .current) (one .valid) (one .buffer) (done (lengthAt d) s m) (fit .1) (bytes .1) (one .full)
       (done-keeps (lengthAt d) (countAt d) own s m (fit .0) room .size ∙ room))

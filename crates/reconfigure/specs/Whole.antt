@@ -105,10 +105,10 @@ pub record Ended (e : Device) (m ws k : List ℕ) : Type 0 where
   pub hunts : next .phase ≡ Phase.Hunting Bytes.Zero
   pub empty : next .control .partial ≡ Bytes.Zero
 
-ending-goes : (d v k : ℕ) (n : Current) (b : Bool) (hand m : List ℕ) (e : Device) → view e ≡ waiting d v k n b hand → Ended e m (packetsWords v ending) m
+ending-goes : (d v k : ℕ) (n : Current) (b : Bool) (buffer m : List ℕ) (e : Device) → view e ≡ waiting d v k n b buffer → Ended e m (packetsWords v ending) m
 unfolding packetsWords packetWords buffered stored addressOf
-ending-goes d v k n b hand m e h =
-    let checked = check-leads d v k n b hand m .from e h in
+ending-goes d v k n b buffer m e h =
+    let checked = check-leads d v k n b buffer m .from e h in
     let empty = ap (λ (s : State). s .partial) (checked .seen) in
     record {
       next = device (Phase.Hunting Bytes.Zero) (dismissed (checked .next .control)) (checked .next .frame);
@@ -127,10 +127,10 @@ module _ (d : ℕ) (known : d ≤ 7) (own : ℕ → Bool) (ss : List Step) (fits
   packets-go c f m at empty full room =
       let v₁ = crcAfter 0 (heading d) in
       let v₂ = crcAfter v₁ (stepsPackets d ss) in
-      let hand = length-take-le (lengthAt d) f (omega (arith, length-fits d)) in
-      let steps = steps-reached d known own ss v₁ 7 (c .current) (c .flags .«buffer_valid») (take (lengthAt d) f) m fits bytes hand room in
+      let counts = length-take-le (lengthAt d) f (omega (arith, length-fits d)) in
+      let steps = steps-reached d known own ss v₁ 7 (c .current) (c .flags .«buffer_valid») (take (lengthAt d) f) m fits bytes counts room in
       let done = steps .leads .from (device (Phase.Header Open.Closed) (opened d known c f m at empty) f) (heading-seen d known c f m at empty full) in
-      let last = ending-goes d v₂ (steps .cmd) (steps .current) (steps .valid) (steps .hand) (allDone (lengthAt d) ss m) (done .next) (done .seen) in
+      let last = ending-goes d v₂ (steps .cmd) (steps .current) (steps .valid) (steps .buffer) (allDone (lengthAt d) ss m) (done .next) (done .seen) in
       rw (words-append 0 (heading d) (stepsPackets d ss ++ ending), words-append v₁ (stepsPackets d ss) ending)
       (record {
         next = last .next;
