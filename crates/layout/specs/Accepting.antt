@@ -104,7 +104,7 @@ read-accepts d f r b e h (Reading.Read ss next) k =
     record { known = known-device d f e; inside = rw same h; steps = ss; next = next; was-read = rw same k; size = refl }
 read-accepts d f r b e h (Reading.Refused c at) k = tt
 
-check-accepts : (d : ℕ) (r : FrameRange) (b : List ℕ) (q : Figure) → figure frameCount d ≡ q → Accepts d r b (checkFor q d r b)
+check-accepts : (d : ℕ) (r : FrameRange) (b : List ℕ) (q : Figure) → figure frameCount d ≡ q → Accepts d r b (checkFor q d r b 0)
 unfolding checkFor
 check-accepts d r b (Figure.Value f) e =
     either (Accepts d r b) (ltb f (r .first + r .count)) (λ _. tt) (λ inside. read-accepts d f r b e (ltb-false f _ inside) _ refl)

@@ -37,12 +37,16 @@ module _ (l f : ℕ) (own : ℕ → Bool) (b : List ℕ) where
   deviceRead d at (Number.Refused c) = Refused c at
 
   -- "edition 1"
-  unfoldable pub editionRead : ℕ → Number → Reading (List Step)
-  editionRead d (Number.Value v next) = cond (eqb v 1) (deviceRead d next (numberAt b next)) (Refused Cause.WrongEdition 0)
-  editionRead d (Number.Refused c) = Refused c 0
+  unfoldable pub editionRead : ℕ → ℕ → Number → Reading (List Step)
+  editionRead d at (Number.Value v next) = cond (eqb v 1) (deviceRead d next (numberAt b next)) (Refused Cause.WrongEdition at)
+  editionRead d at (Number.Refused c) = Refused c at
+
+  -- the layout that begins at an offset
+  abbrev pub layoutAt : ℕ → ℕ → Reading (List Step)
+  layoutAt d at = editionRead d at (numberAt b at)
 
   abbrev pub layoutRead : ℕ → Reading (List Step)
-  layoutRead d = editionRead d (numberAt b 0)
+  layoutRead d = layoutAt d 0
 
 -- ---- the words of the stream
 
@@ -66,10 +70,14 @@ verdictOf l (Reading.Read ss next) = Verdict.Accepted (4 * streamWords l ss)
 verdictOf l (Reading.Refused c at) = Verdict.Refused c at
 
 -- "Checks: 21, 37, then the layout"; 37: "seat's first frame plus count above F"
-unfoldable pub checkFor : Figure → ℕ → FrameRange → List ℕ → Verdict
-checkFor (Figure.Value f) d r b =
-    cond (ltb f (r .first + r .count)) Verdict.WrongRange (verdictOf (lengthAt d) (layoutRead (lengthAt d) f (owns r) b d))
-checkFor Figure.UnknownDevice d r b = Verdict.UnknownDevice
+unfoldable pub checkFor : Figure → ℕ → FrameRange → List ℕ → ℕ → Verdict
+checkFor (Figure.Value f) d r b at =
+    cond (ltb f (r .first + r .count)) Verdict.WrongRange (verdictOf (lengthAt d) (layoutAt (lengthAt d) f (owns r) b d at))
+checkFor Figure.UnknownDevice d r b at = Verdict.UnknownDevice
+
+-- the layout that begins at an offset
+abbrev pub checkAt : ℕ → FrameRange → List ℕ → ℕ → Verdict
+checkAt d r b at = checkFor (figure frameCount d) d r b at
 
 abbrev pub check : ℕ → FrameRange → List ℕ → Verdict
-check d r b = checkFor (figure frameCount d) d r b
+check d r b = checkAt d r b 0

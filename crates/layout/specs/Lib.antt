@@ -2,6 +2,7 @@ pub mod Range
 pub mod Step
 pub mod Reader
 pub mod Layout
+pub mod LayoutReader
 pub mod Machine
 pub mod Views
 pub mod Converse

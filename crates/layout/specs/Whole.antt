@@ -111,7 +111,7 @@ module _ (l f : ℕ) (own : ℕ → Bool) (b : List ℕ) where
       either (View d) (eqb v d) (λ same. count-view d device next e (rw (← eqb-true v d same) g) (numberAt b next) refl) (λ _. tt)
   device-view d device e (Number.Refused c) g = tt
 
-  edition-view : (d : ℕ) (x : Number) → numberAt b 0 ≡ x → View d (editionRead l f own b d x)
+  edition-view : (d : ℕ) (x : Number) → numberAt b 0 ≡ x → View d (editionRead l f own b d 0 x)
   unfolding editionRead
   edition-view d (Number.Value v next) e =
       either (View d) (eqb v 1) (λ one. device-view d next (rw (← eqb-true v 1 one) e) (numberAt b next) refl) (λ _. tt)

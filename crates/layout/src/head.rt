@@ -1,4 +1,4 @@
-// Edition, device, step count and the list of steps.
+// The check of a layout: the desk's own numbers, then edition, device, step count and the list of steps.
 use crate::FrameRange;
 use crate::step::StepAt;
 use crate::step::read_step;
@@ -6,6 +6,8 @@ use answers::layout::Cause;
 use answers::layout::Verdict;
 use numbers::Number;
 use numbers::read_number;
+use parts::device::Figure;
+use parts::device::frame_count;
 use parts::device::frame_length;
 use parts::device::value_of;
 ghost use mathlib.Core.Path.{_≡_};
@@ -15,7 +17,7 @@ ghost use Rattle.answers.specs.declared.layout.Verdict.the-variants as Verdict;
 ghost use Rattle.numbers.specs.Number.{numberAt};
 ghost use Rattle.layout.specs.Range.{owns};
 ghost use Rattle.layout.specs.Reader.{stepsAt};
-ghost use Rattle.layout.specs.Layout.{ended, countRead, deviceRead, layoutRead, verdictOf};
+ghost use Rattle.layout.specs.Layout.{ended, countRead, deviceRead, layoutAt, verdictOf, checkAt};
 
 fn refused(cause: Cause, at: usize) -> Verdict
     ensures { λ r. ⌜ r ≡ Verdict.Refused cause at ⌝ }
@@ -90,18 +92,34 @@ fn layout_device(device: u32, range: FrameRange, layout: &[u8], at: usize) -> Ve
     }
 }
 
-// The layout from its edition on.
-pub(crate) fn layout_edition(device: u32, range: FrameRange, layout: &[u8]) -> Verdict
-    ensures { λ r. ⌜ r ≡ verdictOf (lengthAt device) (layoutRead (lengthAt device) (countAt device) (owns range) (now (layout .entry)) device) ⌝ }
+// The layout from its edition on, which stands at an offset.
+fn layout_edition(device: u32, range: FrameRange, layout: &[u8], at: usize) -> Verdict
+    ensures { λ r. ⌜ r ≡ verdictOf (lengthAt device) (layoutAt (lengthAt device) (countAt device) (owns range) (now (layout .entry)) device at) ⌝ }
 {
-    let read = read_number(layout, 0);
+    let read = read_number(layout, at);
     match read {
-        Number::Refused(cause) => refused(cause, 0),
+        Number::Refused(cause) => refused(cause, at),
         Number::Value { value, next } => {
             if value != 1 {
-                return refused(Cause::WrongEdition, 0);
+                return refused(Cause::WrongEdition, at);
             }
             layout_device(device, range, layout, next)
+        }
+    }
+}
+
+// The layout that begins at an offset: 21, 37, then the layout front to back.
+pub(crate) fn check_at(device: u32, range: FrameRange, layout: &[u8], at: usize) -> Verdict
+    ensures { λ r. ⌜ r ≡ checkAt device range (now (layout .entry)) at ⌝ }
+{
+    let frames = frame_count(device);
+    match frames {
+        Figure::UnknownDevice => Verdict::UnknownDevice,
+        Figure::Value(f) => {
+            if (f as u64) < range.first as u64 + range.count as u64 {
+                return Verdict::WrongRange;
+            }
+            layout_edition(device, range, layout, at)
         }
     }
 }

@@ -1,11 +1,12 @@
 // The layout reader: checks a layout for a device and the frames that the desk names.
-mod head; // head.rt: edition, device, step count and the list of steps
+mod head; // head.rt: the check of a layout at an offset
 mod range; // range.rt: which frames are owned
+pub mod reader; // reader.rt: the layout and the offset reached, as one value
 pub mod step; // step.rt: one step
 mod targets; // targets.rt: the targets of a step
 
+use crate::reader::LayoutReader;
 use answers::layout::Verdict;
-use parts::device::Figure;
 ghost use mathlib.Core.Path.{_≡_};
 ghost use Rattle.layout.specs.Layout.{check};
 
@@ -19,14 +20,5 @@ pub struct FrameRange {
 pub fn check(device: u32, range: FrameRange, layout: &[u8]) -> Verdict
     ensures { λ r. ⌜ r ≡ check device range (now (layout .entry)) ⌝ }
 {
-    let frames = parts::device::frame_count(device);
-    match frames {
-        Figure::UnknownDevice => Verdict::UnknownDevice,
-        Figure::Value(f) => {
-            if (f as u64) < range.first as u64 + range.count as u64 {
-                return Verdict::WrongRange;
-            }
-            head::layout_edition(device, range, layout)
-        }
-    }
+    LayoutReader::new(layout).check(device, range)
 }

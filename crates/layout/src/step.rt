@@ -9,7 +9,7 @@ use parts::device::frame_count;
 use parts::device::frame_length;
 use parts::device::value_of;
 ghost use mathlib.Core.Path.{_≡_};
-ghost use Prim.Native.Nat.{_≤_};
+ghost use Prim.Native.Nat.{_-_, _≤_};
 ghost use lib.ListN.{length};
 ghost use Rattle.parts.specs.Device.{lengthAt, countAt};
 ghost use Rattle.numbers.specs.Number.{numberAt};
@@ -46,6 +46,16 @@ fn refused(cause: Cause, at: usize) -> StepAt
     }
 }
 
+// How many bytes are left from an offset on, 0 past the end.
+pub(crate) fn bytes_left(layout: &[u8], at: usize) -> usize
+    ensures { λ r. ⌜ r ≡ length (now (layout .entry)) - at ⌝ }
+{
+    if layout.len() < at {
+        return 0;
+    }
+    layout.len() - at
+}
+
 // A FrameWrite, judged when its count is read. at and count_at are the offsets of its first frame's number and of its count.
 fn judged_write(
     device: u32,
@@ -70,7 +80,7 @@ fn judged_write(
         return refused(Cause::OutsideRange, at);
     }
     let size = 4 * value_of(frame_length(device)) as usize * count as usize;
-    if layout.len() - body < size {
+    if bytes_left(layout, body) < size {
         return refused(Cause::Missing, layout.len());
     }
     StepAt::FrameWrite {
@@ -137,7 +147,7 @@ fn judged_multi(
     if value_of(frame_count(device)) < count {
         return refused(Cause::OutsidePart, at);
     }
-    if layout.len() - body < 4 * value_of(frame_length(device)) as usize {
+    if bytes_left(layout, body) < 4 * value_of(frame_length(device)) as usize {
         return refused(Cause::Missing, layout.len());
     }
     multi_targets(device, range, layout, count, body)

@@ -36,8 +36,8 @@ returns-2 : tie.Need-returns-2
 unfolding judgedMulti
 returns-2 c = simp (ne-eqb _ _ (c .before .before .before .before .if1 .left), ← frames (c .before .before), lt-ltb _ _ (c .before .if2 .taken)) (c .refused2 .ensures)
 
-sub-if3 : tie.Need-sub-if3
-sub-if3 c = search needs
+bytes-left-requires : tie.Need-bytes-left-requires
+bytes-left-requires c κs = search needs
 
 frame-length-requires : tie.Need-frame-length-requires
 frame-length-requires c κs = search needs
@@ -46,7 +46,7 @@ value-of-requires-2 : tie.Need-value-of-requires-2
 value-of-requires-2 c κs = search needs
 
 -- the words of a frame are L
-words : (c : tie.After-value-of2) → c .value-of2 .result ≡ lengthAt (c .before .before .before .before .before .before .before .args .device)
+words : (c : tie.After-value-of2) → c .value-of2 .result ≡ lengthAt (c .before .before .before .before .before .before .before .before .args .device)
 words c = rw (c .before .frame-length .ensures) at (c .value-of2 .ensures)
 
 cast-if3 : tie.Need-cast-if3
@@ -61,11 +61,11 @@ refused-requires-3 c κs = search needs
 returns-3 : tie.Need-returns-3
 unfolding judgedMulti
 returns-3 c =
-    let a = c .before .before .before .before .before .before .before .before .before .args in
+    let a = c .before .before .before .before .before .before .before .before .before .before .args in
     simp (
-      ne-eqb _ _ (c .before .before .before .before .before .before .before .if1 .left),
-      ← frames (c .before .before .before .before .before),
-      le-ltb _ _ (c .before .before .before .before .if2 .left),
+      ne-eqb _ _ (c .before .before .before .before .before .before .before .before .if1 .left),
+      ← frames (c .before .before .before .before .before .before),
+      le-ltb _ _ (c .before .before .before .before .before .if2 .left),
       ← words (c .before .before),
       lt-ltb (length (now (a .layout))) (a .body + 4 * c .before .before .value-of2 .result) (omega arith),
     ) (c .refused3 .ensures)
@@ -76,10 +76,10 @@ multi-targets-requires c κs = omega (arith, words (c .before))
 returns-4 : tie.Need-returns-4
 unfolding judgedMulti
 returns-4 c =
-    let a = c .before .before .before .before .before .before .before .before .before .args in
+    let a = c .before .before .before .before .before .before .before .before .before .before .args in
     simp (
-      ne-eqb _ _ (c .before .before .before .before .before .before .before .if1 .left),
-      le-ltb (countAt (a .device)) (a .count) (omega (arith, frames (c .before .before .before .before .before), c .before .before .before .before .if2 .left)),
+      ne-eqb _ _ (c .before .before .before .before .before .before .before .before .if1 .left),
+      le-ltb (countAt (a .device)) (a .count) (omega (arith, frames (c .before .before .before .before .before .before), c .before .before .before .before .before .if2 .left)),
       le-ltb (length (now (a .layout))) (a .body + 4 * lengthAt (a .device)) (omega (arith, words (c .before .before), c .before .if3 .left)),
     )
     (c .multi-targets .ensures)
@@ -94,7 +94,7 @@ judged-multi-spec =
     value-of-requires
     refused-requires-2
     returns-2
-    sub-if3
+    bytes-left-requires
     frame-length-requires
     value-of-requires-2
     cast-if3

@@ -86,8 +86,8 @@ mul-size-2 c =
     let k : a .count ≤ 1945 = omega (arith, inside (c .before .before .before .before), count-fits (a .device)) in
     omega (arith, mul-le-mul {n₁ = 4 * c .value-of2 .result} {n₂ = 852} {m₂ = 1945} (omega arith) k)
 
-sub-if4 : tie.Need-sub-if4
-sub-if4 c = search needs
+bytes-left-requires : tie.Need-bytes-left-requires
+bytes-left-requires c κs = search needs
 
 refused-requires-4 : tie.Need-refused-requires-4
 refused-requires-4 c κs = search needs
@@ -95,14 +95,14 @@ refused-requires-4 c κs = search needs
 returns-4 : tie.Need-returns-4
 unfolding judgedWrite
 returns-4 c =
-    let a = c .before .before .before .before .before .before .before .before .before .before .before .args in
-    let l = c .before .before .value-of2 .result in
+    let a = c .before .before .before .before .before .before .before .before .before .before .before .before .args in
+    let l = c .before .before .before .value-of2 .result in
     simp (
-      ne-eqb _ _ (c .before .before .before .before .before .before .before .before .before .if1 .left),
-      le-ltb _ _ (inside (c .before .before .before .before .before .before)),
-      sym (c .before .before .before .before .before .owns-run .ensures) ∙ not-false _ (c .before .before .before .before .if3 .left),
-      ← words (c .before .before),
-      lt-ltb (length (now (a .layout))) (a .body + 4 * l * a .count) (omega arith),
+      ne-eqb _ _ (c .before .before .before .before .before .before .before .before .before .before .if1 .left),
+      le-ltb _ _ (inside (c .before .before .before .before .before .before .before)),
+      sym (c .before .before .before .before .before .before .owns-run .ensures) ∙ not-false _ (c .before .before .before .before .before .if3 .left),
+      ← words (c .before .before .before),
+      lt-ltb (length (now (a .layout))) (a .body + 4 * l * a .count) (omega (arith, c .before .before .bytes-left .ensures)),
     ) (c .refused4 .ensures)
 
 add-t22 : tie.Need-add-t22
@@ -111,14 +111,14 @@ add-t22 c = search needs
 returns-5 : tie.Need-returns-5
 unfolding judgedWrite
 returns-5 c =
-    let a = c .before .before .before .before .before .before .before .before .before .before .args in
-    let l = c .before .value-of2 .result in
+    let a = c .before .before .before .before .before .before .before .before .before .before .before .args in
+    let l = c .before .before .value-of2 .result in
     simp (
-      ne-eqb _ _ (c .before .before .before .before .before .before .before .before .if1 .left),
-      le-ltb _ _ (inside (c .before .before .before .before .before)),
-      sym (c .before .before .before .before .owns-run .ensures) ∙ not-false _ (c .before .before .before .if3 .left),
-      ← words (c .before),
-      le-ltb (length (now (a .layout))) (a .body + 4 * l * a .count) (omega arith),
+      ne-eqb _ _ (c .before .before .before .before .before .before .before .before .before .if1 .left),
+      le-ltb _ _ (inside (c .before .before .before .before .before .before)),
+      sym (c .before .before .before .before .before .owns-run .ensures) ∙ not-false _ (c .before .before .before .before .if3 .left),
+      ← words (c .before .before),
+      le-ltb (length (now (a .layout))) (a .body + 4 * l * a .count) (omega (arith, c .before .bytes-left .ensures)),
     )
 
 pub judged-write-spec : {M : Type 1} → statement M
@@ -141,7 +141,7 @@ judged-write-spec =
     cast-size
     mul-size
     mul-size-2
-    sub-if4
+    bytes-left-requires
     refused-requires-4
     returns-4
     add-t22
