@@ -18,7 +18,7 @@ use Rattle.stream.specs.Length.{packets-size}
 use Rattle.compiler.specs.Compiled.{streamOf, overwritten}
 use Rattle.compiler.specs.Emitted.{putWords, put-append}
 use Rattle.compiler.specs.Writing.{penAt, Room, Written}
-use Rattle.compiler.specs.declared.packet.Pen.{Pen}
+use Rattle.compiler.specs.declared.packet.Cursor.{Cursor}
 
 -- "FFFFFFFF, sync"
 abbrev pub synced : List ℕ → List ℕ
@@ -38,7 +38,7 @@ module _ (d : ℕ) (ss : List Step) (out : List ℕ) (fits : length (stream d ss
   unfolding wordsOf
   stream-room = omega (arith, bytes-length (wordsOf d ss), packets-size 0 (streamPackets d ss), synced-length out)
 
-  pub stream-written : (after : List ℕ) (end : Pen) → Written (synced out) (penAt 8 0) (streamPackets d ss) after end → after ≡ overwritten (stream d ss) out
+  pub stream-written : (after : List ℕ) (end : Cursor) → Written (synced out) (penAt 8 0) (streamPackets d ss) after end → after ≡ overwritten (stream d ss) out
   unfolding wordsOf
   stream-written after end w =
       w .bytes ∙ put-append out 0 (0xFFFFFFFF ∷ 0xAA995566 ∷ []) (packetsWords 0 (streamPackets d ss)) ∙ sets-eq (stream d ss) out 0 (omega arith)

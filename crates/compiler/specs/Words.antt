@@ -10,7 +10,7 @@ use Rattle.parts.specs.Memory.{bytesOf}
 use Rattle.crc16.specs.Register.{feed, fedWords}
 use Rattle.stream.specs.Stream.{wordsFrom}
 use Rattle.compiler.specs.Emitted.{putWords, put-append}
-use Rattle.compiler.specs.declared.packet.Pen.{Pen}
+use Rattle.compiler.specs.declared.packet.Cursor.{Cursor}
 
 -- the word at an offset, high byte first
 abbrev pub wordAt : List ℕ → ℕ → ℕ
@@ -20,20 +20,20 @@ pub words-next : (k i : ℕ) (s : List ℕ) → wordsFrom (suc k) (drop i s) ≡
 unfolding wordsFrom
 words-next k i s = rw (getD-drop i s 0 0, getD-drop i s 1 0, getD-drop i s 2 0, getD-drop i s 3 0, drop-drop 4 i s, add-zero)
 
--- all words ws from a pen on give what the rest of them gives from a later one on
-pub record Left (out₀ : List ℕ) (pen : Pen) (ws out : List ℕ) (here : Pen) (rest : List ℕ) : Type 0 where
+-- all words ws from a cursor on give what the rest of them gives from a later one on
+pub record Left (out₀ : List ℕ) (cursor : Cursor) (ws out : List ℕ) (here : Cursor) (rest : List ℕ) : Type 0 where
   pub size : length out ≡ length out₀
-  pub fed : fedWords (here .crc) 2 rest ≡ fedWords (pen .crc) 2 ws
-  pub put : putWords out (here .at) rest ≡ putWords out₀ (pen .at) ws
+  pub fed : fedWords (here .crc) 2 rest ≡ fedWords (cursor .crc) 2 ws
+  pub put : putWords out (here .at) rest ≡ putWords out₀ (cursor .at) ws
 
-pub left-all : (out : List ℕ) (pen : Pen) (ws : List ℕ) → Left out pen ws out pen ws
-left-all out pen ws = record { size = refl; fed = refl; put = refl }
+pub left-all : (out : List ℕ) (cursor : Cursor) (ws : List ℕ) → Left out cursor ws out cursor ws
+left-all out cursor ws = record { size = refl; fed = refl; put = refl }
 
 -- the first of the words that are left
-pub left-next : {out₀ : List ℕ} {pen : Pen} {ws out : List ℕ} {here : Pen} {rest : List ℕ} {out′ : List ℕ} {there : Pen} {w : ℕ} {more : List ℕ}
-    → Left out₀ pen ws out here rest → rest ≡ w ∷ more
+pub left-next : {out₀ : List ℕ} {cursor : Cursor} {ws out : List ℕ} {here : Cursor} {rest : List ℕ} {out′ : List ℕ} {there : Cursor} {w : ℕ} {more : List ℕ}
+    → Left out₀ cursor ws out here rest → rest ≡ w ∷ more
     → there .at ≡ here .at + 4 → there .crc ≡ feed (here .crc) 2 w → out′ ≡ putWords out (here .at) (w ∷ [])
-    → Left out₀ pen ws out′ there more
+    → Left out₀ cursor ws out′ there more
 unfolding fedWords
 left-next {out = out} {here = here} {w = w} {more = more} l next at crc put = record {
   size = rw put (length-sets out (here .at) (bytesOf (w ∷ [])) ∙ l .size);
@@ -42,7 +42,7 @@ left-next {out = out} {here = here} {w = w} {more = more} l next at crc put = re
 }
 
 -- no word is left
-pub left-none : {out₀ : List ℕ} {pen : Pen} {ws out : List ℕ} {here : Pen} {rest : List ℕ} → Left out₀ pen ws out here rest → rest ≡ []
-    → (here .crc ≡ fedWords (pen .crc) 2 ws) × (out ≡ putWords out₀ (pen .at) ws)
+pub left-none : {out₀ : List ℕ} {cursor : Cursor} {ws out : List ℕ} {here : Cursor} {rest : List ℕ} → Left out₀ cursor ws out here rest → rest ≡ []
+    → (here .crc ≡ fedWords (cursor .crc) 2 ws) × (out ≡ putWords out₀ (cursor .at) ws)
 unfolding fedWords bytesOf
 left-none l none = (rw none at (l .fed), rw none at (l .put))

@@ -1,4 +1,4 @@
--- Packets written from a pen on: the output and the pen after them. One list after another is the two joined.
+-- Packets written from a cursor on: the output and the cursor after them. One list after another is the two joined.
 -- By the laws of packets after packets; a loop says that what is left, written from here, is what all is, written from the start.
 use mathlib.Core.Path.{_≡_, _∙_, refl, ap}
 use mathlib.Core.List.{List, [], _∷_, _++_}
@@ -12,60 +12,60 @@ use Rattle.stream.specs.Stream.{wordsFrom}
 use Rattle.stream.specs.Length.{size, sizes, sizes-append, words-length}
 use Rattle.stream.specs.After.{crcAfter, crc-append}
 use Rattle.compiler.specs.Emitted.{emitted, emit-append}
-use Rattle.compiler.specs.declared.packet.Pen.{Pen}
+use Rattle.compiler.specs.declared.packet.Cursor.{Cursor}
 
-abbrev pub penAt : ℕ → ℕ → Pen
+abbrev pub penAt : ℕ → ℕ → Cursor
 penAt at crc = record { at = at; crc = crc }
 
 -- the packets have room in an output
-abbrev pub Room : List ℕ → Pen → List Packet → Type 0
-Room out pen ps = pen .at + 4 * sizes ps ≤ length out
+abbrev pub Room : List ℕ → Cursor → List Packet → Type 0
+Room out cursor ps = cursor .at + 4 * sizes ps ≤ length out
 
 -- and so have the first of them
-pub front-room : (out : List ℕ) (pen : Pen) (ps qs : List Packet) → Room out pen (ps ++ qs) → Room out pen ps
-front-room out pen ps qs h = omega (arith, sizes-append ps qs)
+pub front-room : (out : List ℕ) (cursor : Cursor) (ps qs : List Packet) → Room out cursor (ps ++ qs) → Room out cursor ps
+front-room out cursor ps qs h = omega (arith, sizes-append ps qs)
 
-pub first-room : (out : List ℕ) (pen : Pen) (p : Packet) (ps : List Packet) → Room out pen (p ∷ ps) → pen .at + 4 * size p ≤ length out
+pub first-room : (out : List ℕ) (cursor : Cursor) (p : Packet) (ps : List Packet) → Room out cursor (p ∷ ps) → cursor .at + 4 * size p ≤ length out
 unfolding sizes
-first-room out pen p ps h = omega arith
+first-room out cursor p ps h = omega arith
 
--- the packets are written from a pen on; the output and the pen after them
-pub record Written (out : List ℕ) (pen : Pen) (ps : List Packet) (after : List ℕ) (end : Pen) : Type 0 where
-  pub place : end .at ≡ pen .at + 4 * sizes ps
-  pub crc : end .crc ≡ crcAfter (pen .crc) ps
-  pub bytes : after ≡ emitted out (pen .at) (pen .crc) ps
+-- the packets are written from a cursor on; the output and the cursor after them
+pub record Written (out : List ℕ) (cursor : Cursor) (ps : List Packet) (after : List ℕ) (end : Cursor) : Type 0 where
+  pub place : end .at ≡ cursor .at + 4 * sizes ps
+  pub crc : end .crc ≡ crcAfter (cursor .crc) ps
+  pub bytes : after ≡ emitted out (cursor .at) (cursor .crc) ps
 
-module _ {out : List ℕ} {pen : Pen} {ps : List Packet} {after : List ℕ} {end : Pen} (w : Written out pen ps after end) where
+module _ {out : List ℕ} {cursor : Cursor} {ps : List Packet} {after : List ℕ} {end : Cursor} (w : Written out cursor ps after end) where
   pub written-length : length after ≡ length out
-  written-length = ap length (w .bytes) ∙ length-sets out (pen .at) (bytesOf (packetsWords (pen .crc) ps))
+  written-length = ap length (w .bytes) ∙ length-sets out (cursor .at) (bytesOf (packetsWords (cursor .crc) ps))
 
   -- packets after packets
-  pub joined : {qs : List Packet} {last : List ℕ} {stop : Pen} → Written after end qs last stop → Written out pen (ps ++ qs) last stop
+  pub joined : {qs : List Packet} {last : List ℕ} {stop : Cursor} → Written after end qs last stop → Written out cursor (ps ++ qs) last stop
   joined {qs = qs} v =
       record {
         place = omega (arith, w .place, v .place, sizes-append ps qs);
-        crc = v .crc ∙ rw (w .crc) (crc-append (pen .crc) ps qs);
-        bytes = v .bytes ∙ rw (w .bytes, w .place, w .crc) (emit-append out (pen .at) (pen .crc) ps qs);
+        crc = v .crc ∙ rw (w .crc) (crc-append (cursor .crc) ps qs);
+        bytes = v .bytes ∙ rw (w .bytes, w .place, w .crc) (emit-append out (cursor .at) (cursor .crc) ps qs);
       }
 
   -- and there is room for them
-  pub joined-room : (qs : List Packet) → Room out pen (ps ++ qs) → Room after end qs
+  pub joined-room : (qs : List Packet) → Room out cursor (ps ++ qs) → Room after end qs
   joined-room qs h = omega (arith, w .place, written-length, sizes-append ps qs)
 
-  pub middle-room : (qs rs : List Packet) → Room out pen (ps ++ (qs ++ rs)) → Room after end qs
+  pub middle-room : (qs rs : List Packet) → Room out cursor (ps ++ (qs ++ rs)) → Room after end qs
   middle-room qs rs h = front-room after end qs rs (joined-room (qs ++ rs) h)
 
-  pub next-room : (q : Packet) (qs : List Packet) → Room out pen (ps ++ q ∷ qs) → end .at + 4 * size q ≤ length after
+  pub next-room : (q : Packet) (qs : List Packet) → Room out cursor (ps ++ q ∷ qs) → end .at + 4 * size q ≤ length after
   next-room q qs h = first-room after end q qs (joined-room (q ∷ qs) h)
 
-pub nothing : (out : List ℕ) (pen : Pen) → Written out pen [] out pen
+pub nothing : (out : List ℕ) (cursor : Cursor) → Written out cursor [] out cursor
 unfolding sizes crcAfter packetsWords bytesOf
-nothing out pen = record { place = omega arith; crc = refl; bytes = refl }
+nothing out cursor = record { place = omega arith; crc = refl; bytes = refl }
 
 -- one packet, as the functions that write one say it
-pub once : {out : List ℕ} {pen : Pen} {p : Packet} {after : List ℕ} {end : Pen}
-    → (end .at ≡ pen .at + 4 * size p) × ((end .crc ≡ crcAfter (pen .crc) (p ∷ [])) × (after ≡ emitted out (pen .at) (pen .crc) (p ∷ [])))
-    → Written out pen (p ∷ []) after end
+pub once : {out : List ℕ} {cursor : Cursor} {p : Packet} {after : List ℕ} {end : Cursor}
+    → (end .at ≡ cursor .at + 4 * size p) × ((end .crc ≡ crcAfter (cursor .crc) (p ∷ [])) × (after ≡ emitted out (cursor .at) (cursor .crc) (p ∷ [])))
+    → Written out cursor (p ∷ []) after end
 unfolding sizes
 once e = record { place = omega (arith, e .0); crc = e .1 .0; bytes = e .1 .1 }
 
@@ -74,13 +74,13 @@ pub frames-size : (n zeros : ℕ) (xs : List ℕ) → size (Packet.FrameData (wo
 unfolding size
 frames-size n zeros xs = simp (length-append, length-replicate) (omega (arith, words-length n xs))
 
-pub frames-once : {out : List ℕ} {pen : Pen} {after : List ℕ} {end : Pen} (n zeros : ℕ) (xs : List ℕ)
-    → (end .at ≡ pen .at + 4 * (3 + n + zeros))
-    × ((end .crc ≡ crcAfter (pen .crc) (Packet.FrameData (wordsFrom n xs ++ replicate zeros 0) ∷ []))
-    × (after ≡ emitted out (pen .at) (pen .crc) (Packet.FrameData (wordsFrom n xs ++ replicate zeros 0) ∷ [])))
-    → Written out pen (Packet.FrameData (wordsFrom n xs ++ replicate zeros 0) ∷ []) after end
+pub frames-once : {out : List ℕ} {cursor : Cursor} {after : List ℕ} {end : Cursor} (n zeros : ℕ) (xs : List ℕ)
+    → (end .at ≡ cursor .at + 4 * (3 + n + zeros))
+    × ((end .crc ≡ crcAfter (cursor .crc) (Packet.FrameData (wordsFrom n xs ++ replicate zeros 0) ∷ []))
+    × (after ≡ emitted out (cursor .at) (cursor .crc) (Packet.FrameData (wordsFrom n xs ++ replicate zeros 0) ∷ [])))
+    → Written out cursor (Packet.FrameData (wordsFrom n xs ++ replicate zeros 0) ∷ []) after end
 frames-once n zeros xs e = once (rw (frames-size n zeros xs) (e .0), e .1)
 
 -- what is left, written from here, is what all is, written from the start
-abbrev pub Remains : List ℕ → Pen → List Packet → List ℕ → Pen → List Packet → Type 0
-Remains out pen ps now end qs = (after : List ℕ) (stop : Pen) → Written now end qs after stop → Written out pen ps after stop
+abbrev pub Remains : List ℕ → Cursor → List Packet → List ℕ → Cursor → List Packet → Type 0
+Remains out cursor ps now end qs = (after : List ℕ) (stop : Cursor) → Written now end qs after stop → Written out cursor ps after stop

@@ -1,6 +1,6 @@
 // The packets of steps, and the whole stream.
 use crate::frames::put_frames;
-use crate::packet::Pen;
+use crate::packet::Cursor;
 use crate::packet::put_check;
 use crate::packet::put_command;
 use crate::packet::put_multi;
@@ -50,29 +50,35 @@ fn address_told(answer: AddressAnswer) -> u32
 }
 
 // Writes a frame's address to FAR.
-fn put_address(table: &[u16; 256], output: &mut [u8], pen: Pen, device: u32, frame: u32) -> Pen
-    requires { ⌜ (now table ≡ entries 256 0) × (pen .at + 8 ≤ length (now output)) ⌝ }
-    ensures { λ r. ⌜ Written (now (output .entry)) pen (toFrame device frame ∷ []) (now (output .exit)) r ⌝ }
+fn put_address(
+    table: &[u16; 256],
+    output: &mut [u8],
+    cursor: Cursor,
+    device: u32,
+    frame: u32,
+) -> Cursor
+    requires { ⌜ (now table ≡ entries 256 0) × (cursor .at + 8 ≤ length (now output)) ⌝ }
+    ensures { λ r. ⌜ Written (now (output .entry)) cursor (toFrame device frame ∷ []) (now (output .exit)) r ⌝ }
 {
     let answer = frame_address(device, frame);
     let address = address_told(answer);
-    put_write(table, output, pen, Register::Far, address)
+    put_write(table, output, cursor, Register::Far, address)
 }
 
 // Writes FAR and MFWR for each further target, read from an offset on.
 fn put_further(
     table: &[u16; 256],
     output: &mut [u8],
-    pen: Pen,
+    cursor: Cursor,
     device: u32,
     layout: &[u8],
     count: u32,
     start: usize,
-) -> Pen
-    requires { ⌜ (now table ≡ entries 256 0) × Room (now output) pen (further device (numbersAt (now layout) count start)) ⌝ }
-    ensures { λ r. ⌜ Written (now (output .entry)) pen (further device (numbersAt (now (layout .entry)) count start)) (now (output .exit)) r ⌝ }
+) -> Cursor
+    requires { ⌜ (now table ≡ entries 256 0) × Room (now output) cursor (further device (numbersAt (now layout) count start)) ⌝ }
+    ensures { λ r. ⌜ Written (now (output .entry)) cursor (further device (numbersAt (now (layout .entry)) count start)) (now (output .exit)) r ⌝ }
 {
-    let mut last = pen;
+    let mut last = cursor;
     let mut more: u32 = count;
     let mut at: usize = start;
     while 0 < more {
@@ -96,20 +102,20 @@ fn put_further(
 fn put_spread(
     table: &[u16; 256],
     output: &mut [u8],
-    pen: Pen,
+    cursor: Cursor,
     device: u32,
     layout: &[u8],
     count: u32,
     targets: usize,
-) -> Pen
-    requires { ⌜ (now table ≡ entries 256 0) × (0 < count) × Room (now output) pen (spreadPackets device (numbersAt (now layout) count targets)) ⌝ }
-    ensures { λ r. ⌜ Written (now (output .entry)) pen (spreadPackets device (numbersAt (now (layout .entry)) count targets)) (now (output .exit)) r ⌝ }
+) -> Cursor
+    requires { ⌜ (now table ≡ entries 256 0) × (0 < count) × Room (now output) cursor (spreadPackets device (numbersAt (now layout) count targets)) ⌝ }
+    ensures { λ r. ⌜ Written (now (output .entry)) cursor (spreadPackets device (numbersAt (now (layout .entry)) count targets)) (now (output .exit)) r ⌝ }
 {
     let first = read_number(layout, targets);
     match first {
-        Number::Refused(_) => pen,
+        Number::Refused(_) => cursor,
         Number::Value { value, next } => {
-            let aimed = put_address(table, output, pen, device, value);
+            let aimed = put_address(table, output, cursor, device, value);
             let told = put_command(table, output, aimed, 2);
             let written = put_multi(table, output, told);
             put_further(table, output, written, device, layout, count - 1, next)
@@ -121,24 +127,24 @@ fn put_spread(
 fn put_step(
     table: &[u16; 256],
     output: &mut [u8],
-    pen: Pen,
+    cursor: Cursor,
     device: u32,
     layout: &[u8],
     step: StepAt,
-) -> Pen
-    requires { ⌜ (now table ≡ entries 256 0) × StepBytes (lengthAt device) (now layout) step × StepCount (countAt device) step × Room (now output) pen (stepsPackets device (stepOf (lengthAt device) (now layout) step)) ⌝ }
-    ensures { λ r. ⌜ Written (now (output .entry)) pen (stepsPackets device (stepOf (lengthAt device) (now (layout .entry)) step)) (now (output .exit)) r ⌝ }
+) -> Cursor
+    requires { ⌜ (now table ≡ entries 256 0) × StepBytes (lengthAt device) (now layout) step × StepCount (countAt device) step × Room (now output) cursor (stepsPackets device (stepOf (lengthAt device) (now layout) step)) ⌝ }
+    ensures { λ r. ⌜ Written (now (output .entry)) cursor (stepsPackets device (stepOf (lengthAt device) (now (layout .entry)) step)) (now (output .exit)) r ⌝ }
 {
     let l = value_of(frame_length(device)) as usize;
     match step {
-        StepAt::Refused { cause: _, at: _ } => pen,
+        StepAt::Refused { cause: _, at: _ } => cursor,
         StepAt::FrameWrite {
             first,
             count,
             body,
             next: _,
         } => {
-            let begun = put_command(table, output, pen, 1);
+            let begun = put_command(table, output, cursor, 1);
             let aimed = put_address(table, output, begun, device, first);
             put_frames(table, output, aimed, layout, body, count as usize * l, l)
         }
@@ -148,7 +154,7 @@ fn put_step(
             targets,
             next: _,
         } => {
-            let begun = put_command(table, output, pen, 1);
+            let begun = put_command(table, output, cursor, 1);
             let held = put_frames(table, output, begun, layout, body, l, 0);
             put_spread(table, output, held, device, layout, count, targets)
         }
@@ -180,17 +186,17 @@ fn next_of(step: StepAt) -> usize
 fn put_steps(
     table: &[u16; 256],
     output: &mut [u8],
-    pen: Pen,
+    cursor: Cursor,
     device: u32,
     range: FrameRange,
     layout: &[u8],
     count: u32,
     start: usize,
-) -> Pen
-    requires { ⌜ (now table ≡ entries 256 0) × (isRead (stepsAt (lengthAt device) (countAt device) (owns range) (now layout) count start) ≡ true) × Room (now output) pen (stepsPackets device (listed (stepsAt (lengthAt device) (countAt device) (owns range) (now layout) count start))) ⌝ }
-    ensures { λ r. ⌜ Written (now (output .entry)) pen (stepsPackets device (listed (stepsAt (lengthAt device) (countAt device) (owns range) (now (layout .entry)) count start))) (now (output .exit)) r ⌝ }
+) -> Cursor
+    requires { ⌜ (now table ≡ entries 256 0) × (isRead (stepsAt (lengthAt device) (countAt device) (owns range) (now layout) count start) ≡ true) × Room (now output) cursor (stepsPackets device (listed (stepsAt (lengthAt device) (countAt device) (owns range) (now layout) count start))) ⌝ }
+    ensures { λ r. ⌜ Written (now (output .entry)) cursor (stepsPackets device (listed (stepsAt (lengthAt device) (countAt device) (owns range) (now (layout .entry)) count start))) (now (output .exit)) r ⌝ }
 {
-    let mut last = pen;
+    let mut last = cursor;
     let mut left: u32 = count;
     let mut at: usize = start;
     while 0 < left {
@@ -206,32 +212,32 @@ fn put_steps(
 fn put_list(
     table: &[u16; 256],
     output: &mut [u8],
-    pen: Pen,
+    cursor: Cursor,
     device: u32,
     range: FrameRange,
     layout: &[u8],
-) -> Pen
-    requires { ⌜ (now table ≡ entries 256 0) × (device ≤ 7) × (isRead (layoutRead (lengthAt device) (countAt device) (owns range) (now layout) device) ≡ true) × Room (now output) pen (stepsPackets device (listed (layoutRead (lengthAt device) (countAt device) (owns range) (now layout) device))) ⌝ }
-    ensures { λ r. ⌜ Written (now (output .entry)) pen (stepsPackets device (listed (layoutRead (lengthAt device) (countAt device) (owns range) (now (layout .entry)) device))) (now (output .exit)) r ⌝ }
+) -> Cursor
+    requires { ⌜ (now table ≡ entries 256 0) × (device ≤ 7) × (isRead (layoutRead (lengthAt device) (countAt device) (owns range) (now layout) device) ≡ true) × Room (now output) cursor (stepsPackets device (listed (layoutRead (lengthAt device) (countAt device) (owns range) (now layout) device))) ⌝ }
+    ensures { λ r. ⌜ Written (now (output .entry)) cursor (stepsPackets device (listed (layoutRead (lengthAt device) (countAt device) (owns range) (now (layout .entry)) device))) (now (output .exit)) r ⌝ }
 {
     let count = read_number(layout, 2);
     match count {
-        Number::Refused(_) => pen,
+        Number::Refused(_) => cursor,
         Number::Value { value, next } => {
-            put_steps(table, output, pen, device, range, layout, value, next)
+            put_steps(table, output, cursor, device, range, layout, value, next)
         }
     }
 }
 
 // Writes what stands before the steps.
-fn put_heading(table: &[u16; 256], output: &mut [u8], device: u32) -> Pen
+fn put_heading(table: &[u16; 256], output: &mut [u8], device: u32) -> Cursor
     requires { ⌜ (now table ≡ entries 256 0) × (device ≤ 7) × (32 ≤ length (now output)) ⌝ }
     ensures { λ r. ⌜ Written (synced (now (output .entry))) (penAt 8 0) (heading device) (now (output .exit)) r ⌝ }
 {
     put_word(output, 0, 0xFFFFFFFF);
     put_word(output, 4, 0xAA995566);
-    let pen = Pen { at: 8, crc: 0 };
-    let reset = put_command(table, output, pen, 7);
+    let cursor = Cursor { at: 8, crc: 0 };
+    let reset = put_command(table, output, cursor, 7);
     let length = value_of(frame_length(device));
     let sized = put_write(table, output, reset, Register::Flr, length - 1);
     let code = value_of(idcode(device));

@@ -1,5 +1,5 @@
 // Frame data into the output.
-use crate::packet::Pen;
+use crate::packet::Cursor;
 use crate::packet::put_fed;
 use crate::packet::put_word;
 ghost use mathlib.Core.Path.{_≡_};
@@ -30,17 +30,17 @@ fn word_at(layout: &[u8], i: usize) -> u32
 fn put_data(
     table: &[u16; 256],
     output: &mut [u8],
-    pen: Pen,
+    cursor: Cursor,
     layout: &[u8],
     from: usize,
     n: usize,
-) -> Pen
-    requires { ⌜ (now table ≡ entries 256 0) × (pen .at + 4 * n ≤ length (now output)) × (from + 4 * n ≤ length (now layout)) ⌝ }
-    ensures { λ r. ⌜ r .at ≡ pen .at + 4 * n ⌝ }
-    ensures { λ r. ⌜ r .crc ≡ fedWords (pen .crc) 2 (wordsFrom n (drop from (now (layout .entry)))) ⌝ }
-    ensures { λ _. ⌜ now (output .exit) ≡ putWords (now (output .entry)) (pen .at) (wordsFrom n (drop from (now (layout .entry)))) ⌝ }
+) -> Cursor
+    requires { ⌜ (now table ≡ entries 256 0) × (cursor .at + 4 * n ≤ length (now output)) × (from + 4 * n ≤ length (now layout)) ⌝ }
+    ensures { λ r. ⌜ r .at ≡ cursor .at + 4 * n ⌝ }
+    ensures { λ r. ⌜ r .crc ≡ fedWords (cursor .crc) 2 (wordsFrom n (drop from (now (layout .entry)))) ⌝ }
+    ensures { λ _. ⌜ now (output .exit) ≡ putWords (now (output .entry)) (cursor .at) (wordsFrom n (drop from (now (layout .entry)))) ⌝ }
 {
-    let mut here = pen;
+    let mut here = cursor;
     let mut i = from;
     let mut left = n;
     while 0 < left {
@@ -53,13 +53,13 @@ fn put_data(
 }
 
 // Writes n zero words and feeds them for FDRI.
-fn put_zeros(table: &[u16; 256], output: &mut [u8], pen: Pen, n: usize) -> Pen
-    requires { ⌜ (now table ≡ entries 256 0) × (pen .at + 4 * n ≤ length (now output)) ⌝ }
-    ensures { λ r. ⌜ r .at ≡ pen .at + 4 * n ⌝ }
-    ensures { λ r. ⌜ r .crc ≡ fedWords (pen .crc) 2 (replicate {A = ℕ} n 0) ⌝ }
-    ensures { λ _. ⌜ now (output .exit) ≡ putWords (now (output .entry)) (pen .at) (replicate {A = ℕ} n 0) ⌝ }
+fn put_zeros(table: &[u16; 256], output: &mut [u8], cursor: Cursor, n: usize) -> Cursor
+    requires { ⌜ (now table ≡ entries 256 0) × (cursor .at + 4 * n ≤ length (now output)) ⌝ }
+    ensures { λ r. ⌜ r .at ≡ cursor .at + 4 * n ⌝ }
+    ensures { λ r. ⌜ r .crc ≡ fedWords (cursor .crc) 2 (replicate {A = ℕ} n 0) ⌝ }
+    ensures { λ _. ⌜ now (output .exit) ≡ putWords (now (output .entry)) (cursor .at) (replicate {A = ℕ} n 0) ⌝ }
 {
-    let mut here = pen;
+    let mut here = cursor;
     let mut left = n;
     while 0 < left {
         here = put_fed(table, output, here, 2, 0);
@@ -72,27 +72,27 @@ fn put_zeros(table: &[u16; 256], output: &mut [u8], pen: Pen, n: usize) -> Pen
 pub(crate) fn put_frames(
     table: &[u16; 256],
     output: &mut [u8],
-    pen: Pen,
+    cursor: Cursor,
     layout: &[u8],
     from: usize,
     n: usize,
     zeros: usize,
-) -> Pen
-    requires { ⌜ (now table ≡ entries 256 0) × (n + zeros < 134217728) × (pen .at + 4 * (3 + n + zeros) ≤ length (now output)) × (from + 4 * n ≤ length (now layout)) ⌝ }
-    ensures { λ r. ⌜ r .at ≡ pen .at + 4 * (3 + n + zeros) ⌝ }
-    ensures { λ r. ⌜ r .crc ≡ crcAfter (pen .crc) (Packet.FrameData (wordsFrom n (drop from (now (layout .entry))) ++ replicate {A = ℕ} zeros 0) ∷ []) ⌝ }
-    ensures { λ _. ⌜ now (output .exit) ≡ emitted (now (output .entry)) (pen .at) (pen .crc) (Packet.FrameData (wordsFrom n (drop from (now (layout .entry))) ++ replicate {A = ℕ} zeros 0) ∷ []) ⌝ }
+) -> Cursor
+    requires { ⌜ (now table ≡ entries 256 0) × (n + zeros < 134217728) × (cursor .at + 4 * (3 + n + zeros) ≤ length (now output)) × (from + 4 * n ≤ length (now layout)) ⌝ }
+    ensures { λ r. ⌜ r .at ≡ cursor .at + 4 * (3 + n + zeros) ⌝ }
+    ensures { λ r. ⌜ r .crc ≡ crcAfter (cursor .crc) (Packet.FrameData (wordsFrom n (drop from (now (layout .entry))) ++ replicate {A = ℕ} zeros 0) ∷ []) ⌝ }
+    ensures { λ _. ⌜ now (output .exit) ≡ emitted (now (output .entry)) (cursor .at) (cursor .crc) (Packet.FrameData (wordsFrom n (drop from (now (layout .entry))) ++ replicate {A = ℕ} zeros 0) ∷ []) ⌝ }
 {
-    put_word(output, pen.at, 0x30004000);
-    put_word(output, pen.at + 4, 0x50000000 + (n + zeros) as u32);
-    let start = Pen {
-        at: pen.at + 8,
-        crc: pen.crc,
+    put_word(output, cursor.at, 0x30004000);
+    put_word(output, cursor.at + 4, 0x50000000 + (n + zeros) as u32);
+    let start = Cursor {
+        at: cursor.at + 8,
+        crc: cursor.crc,
     };
     let copied = put_data(table, output, start, layout, from, n);
     let padded = put_zeros(table, output, copied, zeros);
     put_word(output, padded.at, crc16::check_word(padded.crc));
-    Pen {
+    Cursor {
         at: padded.at + 4,
         crc: 0,
     }

@@ -12,7 +12,7 @@ ghost use Rattle.stream.specs.After.{crcAfter};
 ghost use Rattle.compiler.specs.Emitted.{putWords, emitted};
 
 // Where the next word goes, and the CRC so far.
-pub struct Pen {
+pub struct Cursor {
     pub at: usize,
     pub crc: u32,
 }
@@ -32,19 +32,19 @@ pub(crate) fn put_word(output: &mut [u8], at: usize, word: u32)
 pub(crate) fn put_fed(
     table: &[u16; 256],
     output: &mut [u8],
-    pen: Pen,
+    cursor: Cursor,
     address: u32,
     word: u32,
-) -> Pen
-    requires { ⌜ (now table ≡ entries 256 0) × (pen .at + 4 ≤ length (now output)) ⌝ }
-    ensures { λ r. ⌜ r .at ≡ pen .at + 4 ⌝ }
-    ensures { λ r. ⌜ r .crc ≡ feed (pen .crc) address word ⌝ }
-    ensures { λ _. ⌜ now (output .exit) ≡ putWords (now (output .entry)) (pen .at) (word ∷ []) ⌝ }
+) -> Cursor
+    requires { ⌜ (now table ≡ entries 256 0) × (cursor .at + 4 ≤ length (now output)) ⌝ }
+    ensures { λ r. ⌜ r .at ≡ cursor .at + 4 ⌝ }
+    ensures { λ r. ⌜ r .crc ≡ feed (cursor .crc) address word ⌝ }
+    ensures { λ _. ⌜ now (output .exit) ≡ putWords (now (output .entry)) (cursor .at) (word ∷ []) ⌝ }
 {
-    put_word(output, pen.at, word);
-    Pen {
-        at: pen.at + 4,
-        crc: crc16::feed_with(table, pen.crc, address, word),
+    put_word(output, cursor.at, word);
+    Cursor {
+        at: cursor.at + 4,
+        crc: crc16::feed_with(table, cursor.crc, address, word),
     }
 }
 
@@ -52,34 +52,39 @@ pub(crate) fn put_fed(
 pub(crate) fn put_write(
     table: &[u16; 256],
     output: &mut [u8],
-    pen: Pen,
+    cursor: Cursor,
     register: Register,
     word: u32,
-) -> Pen
-    requires { ⌜ (now table ≡ entries 256 0) × (pen .at + 8 ≤ length (now output)) ⌝ }
-    ensures { λ r. ⌜ r .at ≡ pen .at + 8 ⌝ }
-    ensures { λ r. ⌜ r .crc ≡ crcAfter (pen .crc) (Packet.Write register word ∷ []) ⌝ }
-    ensures { λ _. ⌜ now (output .exit) ≡ emitted (now (output .entry)) (pen .at) (pen .crc) (Packet.Write register word ∷ []) ⌝ }
+) -> Cursor
+    requires { ⌜ (now table ≡ entries 256 0) × (cursor .at + 8 ≤ length (now output)) ⌝ }
+    ensures { λ r. ⌜ r .at ≡ cursor .at + 8 ⌝ }
+    ensures { λ r. ⌜ r .crc ≡ crcAfter (cursor .crc) (Packet.Write register word ∷ []) ⌝ }
+    ensures { λ _. ⌜ now (output .exit) ≡ emitted (now (output .entry)) (cursor .at) (cursor .crc) (Packet.Write register word ∷ []) ⌝ }
 {
     let address = address_of(register);
-    put_word(output, pen.at, 0x30000001 + address * 8192);
-    let after = Pen {
-        at: pen.at + 4,
-        crc: pen.crc,
+    put_word(output, cursor.at, 0x30000001 + address * 8192);
+    let after = Cursor {
+        at: cursor.at + 4,
+        crc: cursor.crc,
     };
     put_fed(table, output, after, address, word)
 }
 
 // Writes a command. RCRC makes the CRC zero.
-pub(crate) fn put_command(table: &[u16; 256], output: &mut [u8], pen: Pen, command: u32) -> Pen
-    requires { ⌜ (now table ≡ entries 256 0) × (pen .at + 8 ≤ length (now output)) ⌝ }
-    ensures { λ r. ⌜ r .at ≡ pen .at + 8 ⌝ }
-    ensures { λ r. ⌜ r .crc ≡ crcAfter (pen .crc) (Packet.Command command ∷ []) ⌝ }
-    ensures { λ _. ⌜ now (output .exit) ≡ emitted (now (output .entry)) (pen .at) (pen .crc) (Packet.Command command ∷ []) ⌝ }
+pub(crate) fn put_command(
+    table: &[u16; 256],
+    output: &mut [u8],
+    cursor: Cursor,
+    command: u32,
+) -> Cursor
+    requires { ⌜ (now table ≡ entries 256 0) × (cursor .at + 8 ≤ length (now output)) ⌝ }
+    ensures { λ r. ⌜ r .at ≡ cursor .at + 8 ⌝ }
+    ensures { λ r. ⌜ r .crc ≡ crcAfter (cursor .crc) (Packet.Command command ∷ []) ⌝ }
+    ensures { λ _. ⌜ now (output .exit) ≡ emitted (now (output .entry)) (cursor .at) (cursor .crc) (Packet.Command command ∷ []) ⌝ }
 {
-    let after = put_write(table, output, pen, Register::Cmd, command);
+    let after = put_write(table, output, cursor, Register::Cmd, command);
     if command == 7 {
-        return Pen {
+        return Cursor {
             at: after.at,
             crc: 0,
         };
@@ -88,31 +93,31 @@ pub(crate) fn put_command(table: &[u16; 256], output: &mut [u8], pen: Pen, comma
 }
 
 // Writes the word that passes the check to CRC.
-pub(crate) fn put_check(output: &mut [u8], pen: Pen) -> Pen
-    requires { ⌜ pen .at + 8 ≤ length (now output) ⌝ }
-    ensures { λ r. ⌜ r .at ≡ pen .at + 8 ⌝ }
-    ensures { λ r. ⌜ r .crc ≡ crcAfter (pen .crc) (Packet.Check ∷ []) ⌝ }
-    ensures { λ _. ⌜ now (output .exit) ≡ emitted (now (output .entry)) (pen .at) (pen .crc) (Packet.Check ∷ []) ⌝ }
+pub(crate) fn put_check(output: &mut [u8], cursor: Cursor) -> Cursor
+    requires { ⌜ cursor .at + 8 ≤ length (now output) ⌝ }
+    ensures { λ r. ⌜ r .at ≡ cursor .at + 8 ⌝ }
+    ensures { λ r. ⌜ r .crc ≡ crcAfter (cursor .crc) (Packet.Check ∷ []) ⌝ }
+    ensures { λ _. ⌜ now (output .exit) ≡ emitted (now (output .entry)) (cursor .at) (cursor .crc) (Packet.Check ∷ []) ⌝ }
 {
-    put_word(output, pen.at, 0x30000001);
-    put_word(output, pen.at + 4, crc16::check_word(pen.crc));
-    Pen {
-        at: pen.at + 8,
+    put_word(output, cursor.at, 0x30000001);
+    put_word(output, cursor.at + 4, crc16::check_word(cursor.crc));
+    Cursor {
+        at: cursor.at + 8,
         crc: 0,
     }
 }
 
 // Writes two zero words to MFWR.
-pub(crate) fn put_multi(table: &[u16; 256], output: &mut [u8], pen: Pen) -> Pen
-    requires { ⌜ (now table ≡ entries 256 0) × (pen .at + 12 ≤ length (now output)) ⌝ }
-    ensures { λ r. ⌜ r .at ≡ pen .at + 12 ⌝ }
-    ensures { λ r. ⌜ r .crc ≡ crcAfter (pen .crc) (Packet.MultiFrame ∷ []) ⌝ }
-    ensures { λ _. ⌜ now (output .exit) ≡ emitted (now (output .entry)) (pen .at) (pen .crc) (Packet.MultiFrame ∷ []) ⌝ }
+pub(crate) fn put_multi(table: &[u16; 256], output: &mut [u8], cursor: Cursor) -> Cursor
+    requires { ⌜ (now table ≡ entries 256 0) × (cursor .at + 12 ≤ length (now output)) ⌝ }
+    ensures { λ r. ⌜ r .at ≡ cursor .at + 12 ⌝ }
+    ensures { λ r. ⌜ r .crc ≡ crcAfter (cursor .crc) (Packet.MultiFrame ∷ []) ⌝ }
+    ensures { λ _. ⌜ now (output .exit) ≡ emitted (now (output .entry)) (cursor .at) (cursor .crc) (Packet.MultiFrame ∷ []) ⌝ }
 {
-    put_word(output, pen.at, 0x30014002);
-    let after = Pen {
-        at: pen.at + 4,
-        crc: pen.crc,
+    put_word(output, cursor.at, 0x30014002);
+    let after = Cursor {
+        at: cursor.at + 4,
+        crc: cursor.crc,
     };
     let first = put_fed(table, output, after, 10, 0);
     put_fed(table, output, first, 10, 0)

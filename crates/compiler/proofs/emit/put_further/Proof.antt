@@ -1,5 +1,5 @@
 -- `compiler::emit::put_further` meets its contract. The invariant goes by what is left: the targets not yet written, read from
--- where the code stands and written from its pen on, give what all of them give.
+-- where the code stands and written from its cursor on, give what all of them give.
 use mathlib.Core.Path.{_≡_, _∙_, refl, sym, subst}
 use mathlib.Core.List.{List, _∷_}
 use Prim.Native.Nat.{_-_}

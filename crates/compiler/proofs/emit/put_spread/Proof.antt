@@ -27,8 +27,8 @@ first c =
     spread-first (s .args .device) (c .first .given .0 .0) _ _
     (numbers-value (now (s .args .layout)) (s .args .count) (s .args .targets) _ _ (s .pre .1) (sym (c .before .before .read-number .ensures) ∙ c .first .given .1))
 
-room : (c : tie.After-first) → let a = c .before .before .before .before .before .args in Room (now (a .output)) (a .pen) (packets c)
-room c = let s = c .before .before .before .before .before in subst (Room (now (s .args .output)) (s .args .pen)) (first c) (s .pre .2)
+room : (c : tie.After-first) → let a = c .before .before .before .before .before .args in Room (now (a .output)) (a .cursor) (packets c)
+room c = let s = c .before .before .before .before .before in subst (Room (now (s .args .output)) (s .args .cursor)) (first c) (s .pre .2)
 
 read-number-requires : tie.Need-read-number-requires
 read-number-requires c κs = search needs
@@ -43,7 +43,7 @@ put-address-requires : tie.Need-put-address-requires
 unfolding size
 put-address-requires c κs =
     let s = c .before .before .before .before .before .before .before in
-    (s .pre .0, first-room (now (s .args .output)) (s .args .pen) _ _ (room (c .before .before)))
+    (s .pre .0, first-room (now (s .args .output)) (s .args .cursor) _ _ (room (c .before .before)))
 
 put-command-requires : tie.Need-put-command-requires
 unfolding size
@@ -69,7 +69,7 @@ returns : tie.Need-returns
 returns c =
     let s = c .before .before .before .before .before in
     let none = spread-none (s .args .device) _ (numbers-refused (now (s .args .layout)) (s .args .count) (s .args .targets) _ (s .pre .1) (sym (c .before .before .read-number .ensures) ∙ c .enum-told .given .1)) in
-    rw none (nothing (now (s .args .output)) (s .args .pen))
+    rw none (nothing (now (s .args .output)) (s .args .cursor))
 
 same-length : tie.Need-same-length
 same-length c = search needs

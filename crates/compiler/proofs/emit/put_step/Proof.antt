@@ -36,10 +36,10 @@ written c =
     ∷ Packet.FrameData (wordsFrom (v .1 .0 * lengthAt (a .device)) (drop (v .1 .1 .0) (now (a .layout))) ++ replicate (lengthAt (a .device)) 0)
     ∷ []
 
-written-room : (c : tie.After-step) → let a = c .before .before .before .before .before .before .args in Room (now (a .output)) (a .pen) (written c)
+written-room : (c : tie.After-step) → let a = c .before .before .before .before .before .before .args in Room (now (a .output)) (a .cursor) (written c)
 written-room c =
     let s = c .before .before .before .before .before .before in
-    subst (Room (now (s .args .output)) (s .args .pen)) (write-packets (s .args .device) (now (s .args .layout)) (s .args .step) _ _ _ _ (c .step .given .1)) (s .pre .3)
+    subst (Room (now (s .args .output)) (s .args .cursor)) (write-packets (s .args .device) (now (s .args .layout)) (s .args .step) _ _ _ _ (c .step .given .1)) (s .pre .3)
 
 -- its words are few, and lie in the layout
 few : (c : tie.After-step) → let d = c .before .before .before .before .before .before .args .device in c .step .given .0 .1 .0 * lengthAt d + lengthAt d < 134217728
@@ -63,21 +63,21 @@ spread c =
     ∷ Packet.FrameData (wordsFrom (lengthAt (a .device)) (drop (v .1 .0) (now (a .layout))) ++ replicate 0 0)
     ∷ spreadPackets (a .device) (numbersAt (now (a .layout)) (v .0) (v .1 .1 .0))
 
-spread-room : (c : tie.After-step2) → let a = c .before .before .before .before .before .before .args in Room (now (a .output)) (a .pen) (spread c)
+spread-room : (c : tie.After-step2) → let a = c .before .before .before .before .before .before .args in Room (now (a .output)) (a .cursor) (spread c)
 spread-room c =
     let s = c .before .before .before .before .before .before in
-    subst (Room (now (s .args .output)) (s .args .pen)) (multi-packets (s .args .device) (now (s .args .layout)) (s .args .step) _ _ _ _ (c .step2 .given .1)) (s .pre .3)
+    subst (Room (now (s .args .output)) (s .args .cursor)) (multi-packets (s .args .device) (now (s .args .layout)) (s .args .step) _ _ _ _ (c .step2 .given .1)) (s .pre .3)
 
 -- the command and the frame
 held : (c : tie.After-put-frames2) →
     let a = c .before .before .before .before .before .before .before .before .before .before .before .before .before .args in
     let b = c .before .before .before .before .before .before .before .step2 .given .0 .1 .0 in
-    Written (now (a .output)) (a .pen) (Packet.Command 1 ∷ Packet.FrameData (wordsFrom (lengthAt (a .device)) (drop b (now (a .layout))) ++ replicate 0 0) ∷ []) (c .put-frames2 .last .1 .0) (c .put-frames2 .result)
+    Written (now (a .output)) (a .cursor) (Packet.Command 1 ∷ Packet.FrameData (wordsFrom (lengthAt (a .device)) (drop b (now (a .layout))) ++ replicate 0 0) ∷ []) (c .put-frames2 .last .1 .0) (c .put-frames2 .result)
 unfolding size
 held c =
     let a = c .before .before .before .before .before .before .before .before .before .before .before .before .before .args in
     let xs = drop (c .before .before .before .before .before .before .before .step2 .given .0 .1 .0) (now (a .layout)) in
-    subst (λ (l : ℕ). Written (now (a .output)) (a .pen) (Packet.Command 1 ∷ Packet.FrameData (wordsFrom l xs ++ replicate 0 0) ∷ []) (c .put-frames2 .last .1 .0) (c .put-frames2 .result)) (part-length (c .before .before .before .before .before .before .before .before .before))
+    subst (λ (l : ℕ). Written (now (a .output)) (a .cursor) (Packet.Command 1 ∷ Packet.FrameData (wordsFrom l xs ++ replicate 0 0) ∷ []) (c .put-frames2 .last .1 .0) (c .put-frames2 .result)) (part-length (c .before .before .before .before .before .before .before .before .before))
     (joined (once (c .before .before .before .before .put-command2 .ensures)) (frames-once _ 0 xs (c .put-frames2 .ensures)))
 
 -- ---- the answers
@@ -101,7 +101,7 @@ put-command-requires : tie.Need-put-command-requires
 unfolding size
 put-command-requires c κs =
     let s = c .before .before .before .before .before .before .before .before in
-    (s .pre .0, first-room (now (s .args .output)) (s .args .pen) _ _ (written-room (c .before .before)))
+    (s .pre .0, first-room (now (s .args .output)) (s .args .cursor) _ _ (written-room (c .before .before)))
 
 put-address-requires : tie.Need-put-address-requires
 unfolding size
@@ -128,7 +128,7 @@ put-command-requires-2 : tie.Need-put-command-requires-2
 unfolding size
 put-command-requires-2 c κs =
     let s = c .before .before .before .before .before .before .before .before in
-    (s .pre .0, first-room (now (s .args .output)) (s .args .pen) _ _ (spread-room (c .before .before)))
+    (s .pre .0, first-room (now (s .args .output)) (s .args .cursor) _ _ (spread-room (c .before .before)))
 
 put-frames-requires-2 : tie.Need-put-frames-requires-2
 unfolding size
@@ -148,7 +148,7 @@ put-spread-requires c κs =
 returns : tie.Need-returns
 returns c =
     let a = c .before .before .before .before .before .before .args in
-    rw (no-packets (a .device) (now (a .layout)) (a .step) _ _ (c .enum-told .given .1)) (nothing (now (a .output)) (a .pen))
+    rw (no-packets (a .device) (now (a .layout)) (a .step) _ _ (c .enum-told .given .1)) (nothing (now (a .output)) (a .cursor))
 
 same-length : tie.Need-same-length
 same-length c = search needs

@@ -1,5 +1,5 @@
 -- `compiler::emit::put_steps` meets its contract. The invariant goes by what is left: the steps not yet written, read from where
--- the code stands and written from its pen on, give what all of them give; and they can all be read.
+-- the code stands and written from its cursor on, give what all of them give; and they can all be read.
 use mathlib.Core.Path.{_≡_, _∙_, refl, sym, subst}
 use mathlib.Core.Bool.{true}
 use mathlib.Core.List.{_++_}

@@ -70,14 +70,14 @@ returns c =
     let opened = counted .before .before .before .before .before in
     let a = opened .before .before .before .before .args in
     let out = now (a .output) in
-    let at = a .pen .at in
+    let at = a .cursor .at in
     let ws = wordsFrom (a .n) (drop (a .from) (now (a .layout))) in
     let zs = replicate {A = ℕ} (a .zeros) 0 in
     let d = copied .put-data .ensures in
     let z = padded .put-zeros .ensures in
     let size = words-length (a .n) (drop (a .from) (now (a .layout))) in
     let count : length (ws ++ zs) ≡ a .n + a .zeros = simp (length-append, length-replicate) (omega (arith, size)) in
-    let check : checked .before .check-word .result ≡ checkWord (fedWords (a .pen .crc) 2 (ws ++ zs)) = checked .before .check-word .ensures ∙ rw (z .1 .0, d .1 .0, fed-append) in
+    let check : checked .before .check-word .result ≡ checkWord (fedWords (a .cursor .crc) 2 (ws ++ zs)) = checked .before .check-word .ensures ∙ rw (z .1 .0, d .1 .0, fed-append) in
     let put₂ = put-then out at (_ ∷ []) (_ ∷ []) (opened .put-word .ensures) refl (counted .put-word2 .ensures) in
     let put₃ = put-then out at (_ ∷ _ ∷ []) ws put₂ refl (d .1 .1) in
     let put₄ = put-then out at (_ ∷ _ ∷ ws) zs put₃ (omega (arith, d .0, size)) (z .1 .1) in

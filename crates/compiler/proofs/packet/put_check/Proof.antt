@@ -36,7 +36,7 @@ returns c =
     let a = c .before .before .before .before .before .before .before .before .before .before .before .before .args in
     let head = c .before .before .before .before .before .before .before .before .before .put-word .ensures in
     let check = c .before .before .before .before .check-word .ensures in
-    (refl, (refl, rw (c .before .before .before .put-word2 .ensures, check, head) (put-append (now (a .output)) (a .pen .at) (0x30000001 ∷ []) (checkWord (a .pen .crc) ∷ []))))
+    (refl, (refl, rw (c .before .before .before .put-word2 .ensures, check, head) (put-append (now (a .output)) (a .cursor .at) (0x30000001 ∷ []) (checkWord (a .cursor .crc) ∷ []))))
 
 pub put-check-spec : {M : Type 1} → statement M
 put-check-spec =

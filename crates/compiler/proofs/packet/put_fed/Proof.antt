@@ -21,7 +21,7 @@ same-length c = search needs
 returns : tie.Need-returns
 returns c =
     let s = c .before .before .before .before .before .before .before in
-    let crc = feed-with-entries (s .args .pen .crc) (s .args .address) (s .args .word) in
+    let crc = feed-with-entries (s .args .cursor .crc) (s .args .address) (s .args .word) in
     (refl, (c .feed-with .ensures ∙ rw (s .pre .0) crc, c .before .before .before .before .put-word .ensures))
 
 pub put-fed-spec : {M : Type 1} → statement M

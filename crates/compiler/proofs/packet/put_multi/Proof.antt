@@ -35,7 +35,7 @@ returns c =
     let head = c .before .before .before .before .before .before .before .before .before .before .before .put-word .ensures in
     let first = c .before .before .before .before .before .before .put-fed .ensures in
     let second = c .before .before .put-fed2 .ensures in
-    (omega (arith, first .0, second .0), (rw (second .1 .0, first .1 .0), rw (second .1 .1, first .0, first .1 .1, head) (put-append _ _ (0 ∷ []) (0 ∷ []) ∙ put-append (now (a .output)) (a .pen .at) (0x30014002 ∷ []) (0 ∷ 0 ∷ []))))
+    (omega (arith, first .0, second .0), (rw (second .1 .0, first .1 .0), rw (second .1 .1, first .0, first .1 .1, head) (put-append _ _ (0 ∷ []) (0 ∷ []) ∙ put-append (now (a .output)) (a .cursor .at) (0x30014002 ∷ []) (0 ∷ 0 ∷ []))))
 
 pub put-multi-spec : {M : Type 1} → statement M
 put-multi-spec =

@@ -42,7 +42,7 @@ returns c =
     let address = c .before .before .before .before .before .before .before .before .before .address-of in
     let head : 0x30000001 + address .result * 8192 ≡ header1 (a .register) 1 = omega (arith, address .ensures) in
     let word = c .before .before .before .before .before .before .before .put-word .ensures in
-    (fed .0 ∙ omega arith, (rw (fed .1 .0, address .ensures), rw (fed .1 .1, word, head) (put-append (now (a .output)) (a .pen .at) (header1 (a .register) 1 ∷ []) (a .word ∷ []))))
+    (fed .0 ∙ omega arith, (rw (fed .1 .0, address .ensures), rw (fed .1 .1, word, head) (put-append (now (a .output)) (a .cursor .at) (header1 (a .register) 1 ∷ []) (a .word ∷ []))))
 
 pub put-write-spec : {M : Type 1} → statement M
 put-write-spec =
