@@ -53,6 +53,10 @@ fn print_heads() {
     print_check(b"02 00 00", 0, whole(), b"\x02\x00\x00");
     print_check(b"01 01 00", 0, whole(), b"\x01\x01\x00");
     print_check(b"01 00 00", 0, whole(), b"\x01\x00\x00");
+}
+
+// The desk's own numbers.
+fn print_ranges() {
     print_check(
         b"01 00 00, range 364 count 4",
         0,
@@ -78,6 +82,10 @@ fn print_heads() {
         b"\x01\x00\x00",
     );
     print_check(b"01 00 00, device 8", 8, whole(), b"\x01\x00\x00");
+}
+
+// The numbers after a layout's edition.
+fn print_counts() {
     print_check(b"01 08 00", 0, whole(), b"\x01\x08\x00");
     print_check(b"01 00 81 20, 4097 steps", 0, whole(), b"\x01\x00\x81\x20");
     print_check(b"01 00 80 00", 0, whole(), b"\x01\x00\x80\x00");
@@ -163,6 +171,8 @@ fn print_multi_frame_writes() {
 
 fn main() {
     print_heads();
+    print_ranges();
+    print_counts();
     print_frame_writes();
     print_multi_frame_writes();
 }

@@ -115,22 +115,15 @@ fn step_fill(
     );
     registers.crc = done.crc;
     registers.fdri = done.last;
-    let flags = control.flags;
-    let current = control.current;
-    let partial = control.partial;
+    let mut next = control;
+    next.registers = registers;
     Turned {
         phase: Phase::Data {
             register: Register::Fdri,
             left: left - n,
             filled: filled + n,
         },
-        control: Control {
-            device: control.device,
-            registers: registers,
-            flags: flags,
-            current: current,
-            partial: partial,
-        },
+        control: next,
         taken: 4 * n as usize,
     }
 }

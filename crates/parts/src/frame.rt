@@ -40,48 +40,29 @@ enum Search {
     Past(u32),
 }
 
+fn run_of(block: u32, major: u32, columns: u32, minors: u32) -> Run
+    ensures { λ r. ⌜ r ≡ run block major columns minors ⌝ }
+{
+    Run {
+        block: block,
+        major: major,
+        columns: columns,
+        minors: minors,
+    }
+}
+
 // The runs of a part's columns, in the order in which its frames are numbered.
 fn run_at(part: Part, i: u32) -> Run
     requires { ⌜ (i < 6) × Limits part ⌝ }
     ensures { λ r. ⌜ r ≡ getD (runs part) i (run 0 0 0 0) ⌝ }
 {
     match i {
-        0 => Run {
-            block: 0,
-            major: 0,
-            columns: 1,
-            minors: 3,
-        },
-        1 => Run {
-            block: 0,
-            major: 1,
-            columns: 1,
-            minors: 2,
-        },
-        2 => Run {
-            block: 0,
-            major: 2,
-            columns: part.columns + 2,
-            minors: 19,
-        },
-        3 => Run {
-            block: 0,
-            major: part.columns + 4,
-            columns: 1,
-            minors: 2,
-        },
-        4 => Run {
-            block: 1,
-            major: 0,
-            columns: part.ram_columns,
-            minors: 76,
-        },
-        _ => Run {
-            block: 2,
-            major: 0,
-            columns: part.ram_columns,
-            minors: 19,
-        },
+        0 => run_of(0, 0, 1, 3),
+        1 => run_of(0, 1, 1, 2),
+        2 => run_of(0, 2, part.columns + 2, 19),
+        3 => run_of(0, part.columns + 4, 1, 2),
+        4 => run_of(1, 0, part.ram_columns, 76),
+        _ => run_of(2, 0, part.ram_columns, 19),
     }
 }
 
