@@ -17,3 +17,4 @@ pub mod Targets
 pub mod Accepting
 pub mod ByteFrames
 pub mod First
+pub mod Offset
