@@ -45,6 +45,7 @@ module _ (l f : ℕ) (own : ℕ → Bool) (b : List ℕ) where
   abbrev pub layoutAt : ℕ → ℕ → Reading (List Step)
   layoutAt d at = editionRead d at (numberAt b at)
 
+  -- a layout from its first byte on
   abbrev pub layoutRead : ℕ → Reading (List Step)
   layoutRead d = layoutAt d 0
 
@@ -75,7 +76,7 @@ checkFor (Figure.Value f) d r b at =
     cond (ltb f (r .first + r .count)) Verdict.WrongRange (verdictOf (lengthAt d) (layoutAt (lengthAt d) f (owns r) b d at))
 checkFor Figure.UnknownDevice d r b at = Verdict.UnknownDevice
 
--- the layout that begins at an offset
+-- the check of the layout that begins at an offset
 abbrev pub checkAt : ℕ → FrameRange → List ℕ → ℕ → Verdict
 checkAt d r b at = checkFor (figure frameCount d) d r b at
 

@@ -1,4 +1,4 @@
--- The layout reader.
+-- The layout reader: what is made of a layout and an offset in it.
 -- Source: 01, "Layouts": "A layout reader holds the lent layout and its place in it".
 use Prim.Native.Nat.{ℕ, _-_}
 use mathlib.Core.List.{List}
@@ -11,26 +11,26 @@ use Rattle.layout.specs.Layout.{checkAt}
 use Rattle.layout.specs.declared.FrameRange.{FrameRange}
 use Rattle.layout.specs.declared.reader.LayoutReader.{LayoutReader}
 
--- at the first byte
+-- a reader of the layout, at its first byte
 abbrev pub opened : RefT (List ℕ) → LayoutReader
 opened layout = record { layout = layout; at = 0 }
 
--- 01's place
+-- the offset reached: 01's place
 abbrev pub offset : LayoutReader → ℕ
 offset r = r .at
 
--- the bytes from the offset on: none past the end
+-- how many bytes are left from the offset on: none past the end
 abbrev pub left : LayoutReader → ℕ
 left r = length (now (r .layout)) - r .at
 
--- the number at the offset, and the offset after it
+-- the number at the offset, with the offset after it
 abbrev pub number : LayoutReader → Number
 number r = numberAt (now (r .layout)) (r .at)
 
--- the same layout, at another offset
+-- a reader of the same layout, at another offset
 abbrev pub moved : LayoutReader → ℕ → LayoutReader
 moved r at = record { layout = r .layout; at = at }
 
--- the layout that begins at the offset
+-- the check of the layout that begins at the offset
 abbrev pub check : ℕ → FrameRange → LayoutReader → Verdict
 check d r reader = checkAt d r (now (reader .layout)) (reader .at)

@@ -42,7 +42,7 @@ impl<'a> LayoutReader<'a> {
         read_number(self.layout, self.at)
     }
 
-    // The reader of the same layout at another offset.
+    // The reader of the same layout at another offset. No enum may hold a reader, so reading a number and going on are two functions.
     pub fn moved(self, at: usize) -> LayoutReader<'a>
         ensures { λ r. ⌜ r ≡ moved (self .entry) at ⌝ }
     {
