@@ -8,6 +8,7 @@ use Rattle.parts.specs.Device.{partOf, frameCount}
 use Rattle.parts.specs.Columns.{Column, columns}
 use Rattle.parts.specs.declared.device.PartAnswer.{PartAnswer}
 use Rattle.parts.specs.declared.device.PartAnswer.the-variants as PartAnswer
+use Rattle.parts.specs.declared.frame.AddressFields.{AddressFields}
 use Rattle.parts.specs.declared.frame.AddressAnswer.{AddressAnswer}
 use Rattle.parts.specs.declared.frame.AddressAnswer.the-variants as AddressAnswer
 use Rattle.parts.specs.declared.frame.NumberAnswer.{NumberAnswer}
@@ -25,6 +26,10 @@ major a = a / 2 ^ 17 % 2 ^ 8
 
 unfoldable pub minor : ℕ → ℕ
 minor a = a / 2 ^ 9 % 2 ^ 8
+
+-- 01: "block in bits 26..25, major in 24..17, minor in 16..9; other bits are ignored"
+abbrev pub addressFields : ℕ → AddressFields
+addressFields a = record { block = block a; major = major a; minor = minor a }
 
 -- 01: "other bits are ignored": the address without them
 abbrev pub cleared : ℕ → ℕ

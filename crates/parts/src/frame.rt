@@ -9,7 +9,7 @@ ghost use Prim.Native.Nat.{_+_, _*_, _<_, _≤_};
 ghost use lib.ListN.{getD};
 ghost use Rattle.parts.specs.Table.{Limits};
 ghost use Rattle.parts.specs.Columns.{Column, run, runs, columns, runColumns};
-ghost use Rattle.parts.specs.Address.{address, addressIn, numberIn, frameAddress, frameNumber, addressRefusal, numberRefusal};
+ghost use Rattle.parts.specs.Address.{address, addressFields, addressIn, numberIn, frameAddress, frameNumber, addressRefusal, numberRefusal};
 ghost use Rattle.parts.specs.Runs.{Placed, resumed, inRun};
 
 // The frame address of a frame number.
@@ -24,6 +24,13 @@ pub enum NumberAnswer {
     Number(u32),
     NoFrame,
     UnknownDevice,
+}
+
+// The fields of a frame address.
+pub struct AddressFields {
+    pub block: u32,
+    pub major: u32,
+    pub minor: u32,
 }
 
 // A run of neighbouring columns that have the same number of minors, from a major on.
@@ -166,6 +173,17 @@ fn number_in(part: Part, block: u32, major: u32, minor: u32) -> NumberAnswer
     NumberAnswer::NoFrame
 }
 
+// The fields of a frame address; the bits outside them are ignored.
+pub fn address_fields(address: u32) -> AddressFields
+    ensures { λ r. ⌜ r ≡ addressFields address ⌝ }
+{
+    AddressFields {
+        block: address / 33554432 % 4,
+        major: address / 131072 % 256,
+        minor: address / 512 % 256,
+    }
+}
+
 // The frame address of a frame number.
 pub fn frame_address(device: u32, number: u32) -> AddressAnswer
     ensures { λ r. ⌜ r ≡ frameAddress device number ⌝ }
@@ -177,17 +195,15 @@ pub fn frame_address(device: u32, number: u32) -> AddressAnswer
     }
 }
 
-// The frame number of a frame address; bits outside block, major and minor are ignored.
+// The frame number of a frame address.
 pub fn frame_number(device: u32, address: u32) -> NumberAnswer
     ensures { λ r. ⌜ r ≡ frameNumber device address ⌝ }
 {
     let p = part_of(device);
     match p {
         PartAnswer::Known(part) => {
-            let block = address / 33554432 % 4;
-            let major = address / 131072 % 256;
-            let minor = address / 512 % 256;
-            number_in(part, block, major, minor)
+            let at = address_fields(address);
+            number_in(part, at.block, at.major, at.minor)
         }
         PartAnswer::UnknownDevice => NumberAnswer::UnknownDevice,
     }

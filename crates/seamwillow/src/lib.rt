@@ -2,7 +2,8 @@
 ghost use mathlib.Core.Path.{_≡_};
 ghost use Prim.Native.Nat.{_%_};
 ghost use Rattle.crc16.specs.Register.{feed};
-ghost use Rattle.parts.specs.Address.{frameAddress, frameNumber, addressRefusal, numberRefusal, addressTold};
+ghost use Rattle.parts.specs.Device.{partOf, partRefusal, idcodeAt, lengthAt, countAt, memoryAt};
+ghost use Rattle.parts.specs.Address.{addressFields, frameAddress, frameNumber, addressRefusal, numberRefusal, addressTold};
 ghost use Rattle.answers.specs.Refusals.{verdictNumber, verdictValue};
 ghost use Rattle.layout.specs.Range.{range};
 ghost use Rattle.layout.specs.Layout.{check};
@@ -15,6 +16,7 @@ use answers::change::change_value;
 use answers::layout::verdict_number;
 use answers::layout::verdict_value;
 use layout::FrameRange;
+use parts::device::value_of;
 use parts::frame::AddressAnswer;
 use parts::frame::NumberAnswer;
 
@@ -24,6 +26,28 @@ pub extern "C" fn sw_crc(crc: u32, reg: u32, word: u32) -> u32
     ensures { λ r. ⌜ r ≡ feed (crc % 65536) (reg % 32) word ⌝ }
 {
     crc16::feed(crc % 65536, reg % 32, word)
+}
+
+// The figures of a part: 01's number is returned; IDCODE, words a frame, frames and bytes of memory are written.
+#[no_mangle]
+pub extern "C" fn sw_part(
+    device: u32,
+    idcode: &mut u32,
+    frame_words: &mut u32,
+    frames: &mut u32,
+    memory_len: &mut u64,
+) -> u32
+    ensures { λ r. ⌜ r ≡ partRefusal (partOf device) ⌝ }
+    ensures { λ _. ⌜ now (idcode .exit) ≡ idcodeAt device ⌝ }
+    ensures { λ _. ⌜ now («frame_words» .exit) ≡ lengthAt device ⌝ }
+    ensures { λ _. ⌜ now (frames .exit) ≡ countAt device ⌝ }
+    ensures { λ _. ⌜ now («memory_len» .exit) ≡ memoryAt device ⌝ }
+{
+    *idcode = value_of(parts::device::idcode(device));
+    *frame_words = value_of(parts::device::frame_length(device));
+    *frames = value_of(parts::device::frame_count(device));
+    *memory_len = value_of(parts::device::memory_length(device)) as u64;
+    parts::device::part_refusal(parts::device::part_of(device))
 }
 
 // The frame address of a frame number: 01's number is returned, the address written.
@@ -70,6 +94,19 @@ pub extern "C" fn sw_frame_number(device: u32, address: u32, number: &mut u32) -
             21
         }
     }
+}
+
+// The fields of a frame address are written; nothing is refused.
+#[no_mangle]
+pub extern "C" fn sw_address_fields(address: u32, block: &mut u32, major: &mut u32, minor: &mut u32)
+    ensures { λ _. ⌜ now (block .exit) ≡ addressFields address .block ⌝ }
+    ensures { λ _. ⌜ now (major .exit) ≡ addressFields address .major ⌝ }
+    ensures { λ _. ⌜ now (minor .exit) ≡ addressFields address .minor ⌝ }
+{
+    let fields = parts::frame::address_fields(address);
+    *block = fields.block;
+    *major = fields.major;
+    *minor = fields.minor;
 }
 
 // Power-on: the fresh record's image and the memory are written, 01's number is returned.
