@@ -9,17 +9,93 @@
 extern "C" {
 #endif
 
+/* Functions that answer a number answer 0 for done, else a stop or a refusal; sw_crc alone answers a CRC register. */
+
+/* Why a part stopped in a stream: sw_load answers it, and the record of a stopped part holds it. */
+enum sw_stop {
+    SW_STOP_BAD_HEADER = 1,         /* header of no allowed kind */
+    SW_STOP_BAD_REGISTER = 2,       /* register unknown, or written though it can't be */
+    SW_STOP_READ_OPERATION = 3,     /* read operation */
+    SW_STOP_WRONG_IDCODE = 4,       /* IDCODE word not the part's */
+    SW_STOP_WRONG_FRAME_LENGTH = 5, /* FLR word not the words of the part's frame less one */
+    SW_STOP_NOT_READY = 6,          /* FDRI or MFWR before IDCODE and FLR, without its command, or no frame loaded */
+    SW_STOP_WRONG_COUNT = 7,        /* FDRI count not whole frames, MFWR count not 2 */
+    SW_STOP_CRC_CHECK = 8,          /* CRC check not zero */
+    SW_STOP_NO_CURRENT_FRAME = 9,   /* a frame to store, current frame none */
+    SW_STOP_UNKNOWN_COMMAND = 10    /* CMD word above 13 */
+};
+
+/* Why a call was refused. */
+enum sw_refused {
+    SW_REFUSED_UNKNOWN_DEVICE = 21, /* device number above 7 */
+    SW_REFUSED_INCONSISTENT = 22,   /* record inconsistent, or its image not SW_RECORD_LEN bytes */
+    SW_REFUSED_WRONG_MEMORY = 23,   /* memory length not the part's */
+    SW_REFUSED_NOT_HUNTING = 24,    /* the record does not wait for sync (a number of this interface) */
+    SW_REFUSED_MALFORMED = 31,      /* layout malformed */
+    SW_REFUSED_WRONG_EDITION = 32,  /* edition not 1 */
+    SW_REFUSED_WRONG_DEVICE = 33,   /* layout's device not the desk's */
+    SW_REFUSED_OUTSIDE_PART = 34,   /* frame outside the part */
+    SW_REFUSED_OUTSIDE_RANGE = 35,  /* frame outside the range that the desk names */
+    SW_REFUSED_SHORT_OUTPUT = 36,   /* output shorter than the stream */
+    SW_REFUSED_WRONG_RANGE = 37     /* range's first frame plus count above the part's frames */
+};
+
 /* The CRC register (crc modulo 65,536) after word is fed for register address reg (modulo 32). */
 uint32_t sw_crc(uint32_t crc, uint32_t reg, uint32_t word);
+
+/* 0 or 21; the part's IDCODE, the words of a frame, the frames and the bytes of frame memory, all 0 where refused. */
+uint32_t sw_part(uint32_t device, uint32_t *idcode, uint32_t *frame_words, uint32_t *frames, uint64_t *memory_len);
+
+/* The fields of a frame address: bits 26..25, 24..17 and 16..9. Any address; the other bits are ignored. */
+void sw_address_fields(uint32_t address, uint32_t *block, uint32_t *major, uint32_t *minor);
+
+/* No frame, as a frame number. */
+#define SW_NO_FRAME 0xFFFFFFFFu
 
 /* 0, 21 or 34; address: the frame address, 0 where refused. */
 uint32_t sw_frame_address(uint32_t device, uint32_t number, uint32_t *address);
 
-/* 0 or 21; number: the frame number, FFFFFFFF for none and where refused. */
+/* 0 or 21; number: the frame number, SW_NO_FRAME for none and where refused. */
 uint32_t sw_frame_number(uint32_t device, uint32_t address, uint32_t *number);
 
 /* The length in bytes of a record's image: 237 words, high byte first. */
 #define SW_RECORD_LEN 948
+
+/* The words of a record's image. */
+enum sw_record_word {
+    SW_RECORD_DEVICE = 0,        /* device number */
+    SW_RECORD_PHASE = 1,         /* enum sw_phase */
+    SW_RECORD_ARGUMENT = 2,      /* header: register of a type 2 header plus 1, or 0; data: register; stopped: stop */
+    SW_RECORD_WORDS_LEFT = 3,    /* data: words still to come; else 0 */
+    SW_RECORD_WORDS_FILLED = 4,  /* data of FDRI: words of the frame filled; else 0 */
+    SW_RECORD_BYTE_COUNT = 5,    /* bytes of the partial word, or of the sync window while hunting, 0 to 3 */
+    SW_RECORD_BYTES = 6,         /* those bytes as one number, the first byte highest */
+    SW_RECORD_CURRENT_FRAME = 7, /* frame number, SW_NO_FRAME for none */
+    SW_RECORD_FLAGS = 8,         /* enum sw_flag, or-ed */
+    SW_RECORD_REGISTERS = 9,     /* registers 0 to 14 from here on, each at its address */
+    SW_RECORD_FRAME_BUFFER = 24, /* 213 words from here on, of which the part's frame has the first */
+    SW_RECORD_WORDS = 237        /* how many words an image has */
+};
+
+/* What a part waits for. */
+enum sw_phase {
+    SW_PHASE_HUNTING = 0, /* the sync word */
+    SW_PHASE_HEADER = 1,  /* a packet header */
+    SW_PHASE_DATA = 2,    /* a packet's data */
+    SW_PHASE_CRC = 3,     /* the auto CRC word after frame data */
+    SW_PHASE_STOPPED = 4  /* nothing more: it stopped, and takes no byte until power-on */
+};
+
+/* The flags of a record; all other bits are 0. */
+enum sw_flag {
+    SW_FLAG_IDCODE_ACCEPTED = 1 << 0, /* the part's IDCODE was written */
+    SW_FLAG_FLR_ACCEPTED = 1 << 1,    /* the part's frame length was written */
+    SW_FLAG_BUFFER_VALID = 1 << 2,    /* a frame is in the buffer, for MFWR to store */
+    SW_FLAG_GHIGH = 1 << 3,           /* GHIGH is asserted */
+    SW_FLAG_START_PENDING = 1 << 4,   /* START was given, DESYNC not yet */
+    SW_FLAG_CHECK_PASSED = 1 << 5,    /* a CRC check has passed since START, or since power-on */
+    SW_FLAG_STARTED = 1 << 6          /* the device has started */
+};
 
 /* 22 where record_len is not 948, judged first, and then nothing is written; else 0, 21, 23. 0 writes the record of
    the part just powered on and a memory of zeros; 21 and 23 write the fresh record of device 0 and leave the memory. */
