@@ -1,5 +1,5 @@
 -- The numbers of a reconfiguration's refusals, and the value told beside each.
--- Sources: C-INTERFACE.md, sw_reconfigure: "22, 23, 37, the layout's refusals, 36, as sw_compile tells them; 24 (a number of this
+-- Sources: docs/C-INTERFACE.md, sw_reconfigure: "22, 23, 37, the layout's refusals, 36, as sw_compile tells them; 24 (a number of this
 -- interface) where the record is consistent but not waiting for sync"; 01, "Stops and refusals", the table.
 use Prim.Native.Nat.{ℕ}
 use Rattle.answers.specs.Refusals.{verdictNumber, verdictValue}

@@ -1,5 +1,5 @@
 -- Comparing bytes with an image, and the images that are accepted.
--- Source: C-INTERFACE.md: "An image that is the image of no consistent record is refused with 22".
+-- Source: docs/C-INTERFACE.md: "An image that is the image of no consistent record is refused with 22".
 use Prim.Native.Nat.{ℕ}
 use mathlib.Core.List.{List, [], _∷_}
 use mathlib.Core.Bool.{Bool, true, false, _&&_}

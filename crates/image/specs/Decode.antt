@@ -1,5 +1,5 @@
 -- The record that bytes would be the image of: total, with any reading for numbers that name nothing.
--- Source: C-INTERFACE.md, "The record's image, edition 1"; each definition cites its row of the table.
+-- Source: docs/C-INTERFACE.md, "The record's image, edition 1"; each definition cites its row of the table.
 use Prim.Native.Nat.{ℕ, zero, suc, _+_, _*_, _-_, _/_, _%_, _^_}
 use mathlib.Core.List.{List, [], _∷_}
 use mathlib.Core.Bool.{cond}

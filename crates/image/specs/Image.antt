@@ -1,5 +1,5 @@
 -- The image of a device record: 948 bytes, 237 words of 32 bits, high byte first.
--- Source: C-INTERFACE.md, "The record's image, edition 1"; each definition cites its row of the table.
+-- Source: docs/C-INTERFACE.md, "The record's image, edition 1"; each definition cites its row of the table.
 use Prim.Native.Nat.{ℕ, _+_, _*_, _^_}
 use mathlib.Core.List.{List, [], _∷_, _++_}
 use mathlib.Core.Bool.{Bool, cond}

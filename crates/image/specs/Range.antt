@@ -1,5 +1,5 @@
 -- Records whose numbers have the sizes that the code's types give them, and what an image keeps of a record.
--- Source: C-INTERFACE.md, "The record's image, edition 1", words 4 to 7.
+-- Source: docs/C-INTERFACE.md, "The record's image, edition 1", words 4 to 7.
 use Prim.Native.Nat.{_^_, _<_}
 use mathlib.Core.Path.{_≡_}
 use mathlib.Core.Bool.{cond}

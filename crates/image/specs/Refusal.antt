@@ -1,5 +1,5 @@
 -- Which bytes are taken for a record: exactly the images of consistent records.
--- Source: C-INTERFACE.md: "An image that is the image of no consistent record is refused with 22".
+-- Source: docs/C-INTERFACE.md: "An image that is the image of no consistent record is refused with 22".
 use mathlib.Core.Path.{_≡_, refl, ap}
 use mathlib.Core.Bool.{Bool, true, false, cond, _&&_, and-eq-true-iff, false≢true}
 use mathlib.Core.List.{List}

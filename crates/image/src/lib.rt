@@ -1,4 +1,4 @@
-// A device record as its image of 948 bytes, and back (C-INTERFACE.md, "The record's image, edition 1").
+// A device record as its image of 948 bytes, and back (docs/C-INTERFACE.md, "The record's image, edition 1").
 pub mod decode;
 pub mod encode;
 mod head;

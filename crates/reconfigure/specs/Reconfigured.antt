@@ -1,5 +1,5 @@
 -- A reconfiguration: a layout compiled for the record's own device, and the stream loaded.
--- Sources: C-INTERFACE.md, sw_reconfigure: "22, 23, 37, the layout's refusals, 36"; 01, "Layouts": demand 3, in the words of the
+-- Sources: docs/C-INTERFACE.md, sw_reconfigure: "22, 23, 37, the layout's refusals, 36"; 01, "Layouts": demand 3, in the words of the
 -- reference machine. A consistent record that does not wait for sync would take the stream for something else: refused before 37.
 use Prim.Native.Nat.{ℕ}
 use mathlib.Core.Path.{_≡_, refl}
