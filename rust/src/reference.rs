@@ -110,6 +110,16 @@ impl Frame {
     }
 }
 
+/// Block, major and minor of an address.
+pub fn address_fields(address: u32) -> [u32; 3] {
+    let Frame {
+        block,
+        major,
+        minor,
+    } = Frame::from_address(address);
+    [block, major, minor]
+}
+
 /// The frames of one part, both ways round.
 struct FrameList {
     frames: Vec<Frame>,

@@ -1,8 +1,8 @@
 //! The frame lookups of the proved library against the paper and the reference implementation.
 
-use seamwillow_tests::ffi;
+use seamwillow_tests::ffi::{self, Figures};
 use seamwillow_tests::random::Random;
-use seamwillow_tests::reference::{Lookups, PARTS};
+use seamwillow_tests::reference::{address_fields, Lookups, PARTS};
 
 /// Frame numbers of the XC3S400 with their addresses, worked by hand in the paper.
 const XC3S400_EXAMPLES: [(u32, u32); 10] = [
@@ -135,6 +135,39 @@ fn every_block_major_and_minor() {
             named += u32::from(ffi::frame_number(device, address) != (0, u32::MAX));
         }
         assert_eq!(named, frames, "device {device}");
+    }
+}
+
+#[test]
+fn the_figures_of_every_part() {
+    for (device, part) in (0..).zip(&PARTS) {
+        let figures = Figures {
+            idcode: part.idcode,
+            frame_words: part.frame_words(),
+            frames: part.frame_count(),
+            memory_bytes: part.memory_bytes() as u64,
+        };
+        assert_eq!(ffi::part(device), (0, figures), "{}", part.name);
+    }
+    let none = Figures {
+        idcode: 0,
+        frame_words: 0,
+        frames: 0,
+        memory_bytes: 0,
+    };
+    for device in NOT_DEVICES {
+        assert_eq!(ffi::part(device), (21, none), "device {device}");
+    }
+}
+
+#[test]
+fn the_fields_of_a_million_addresses() {
+    let mut random = Random::new(2);
+    for _ in 0..1_000_000 {
+        let address = random.next_u32();
+        let fields = ffi::address_fields(address);
+        let told = [fields.block, fields.major, fields.minor];
+        assert_eq!(told, address_fields(address), "address {address:08X}");
     }
 }
 

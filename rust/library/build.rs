@@ -3,7 +3,7 @@ use std::path::PathBuf;
 
 fn main() {
     let manifest = env::var_os("CARGO_MANIFEST_DIR").expect("cargo sets CARGO_MANIFEST_DIR");
-    let folder = PathBuf::from(manifest).join("../target/staticlib");
+    let folder = PathBuf::from(manifest).join("../../target/staticlib");
     let archive = folder.join("libseamwillow.a");
     println!("cargo:rerun-if-changed={}", archive.display());
     assert!(
