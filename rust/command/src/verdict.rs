@@ -1,0 +1,244 @@
+//! Whether a stream may be loaded: what is asked, and the answers in words.
+
+use crate::desk::{NamedRange, Place};
+use crate::effects::{Effects, StreamPart, WholePartAction};
+use crate::guess;
+use crate::part::Part;
+use crate::runs::FrameSet;
+use crate::walk::Walk;
+use crate::words::{self, counted};
+use seamwillow_library::record::Phase;
+
+/// What a verdict without a range leaves open.
+pub const NO_RANGE: &str =
+    "no --seat and no --frames: whether these frames may be written was not asked";
+
+/// Of many actions on the whole part the first few are told.
+const MOST_TOLD: usize = 4;
+
+/// One of the things that a verdict asks, and its answer in words.
+#[derive(Debug)]
+pub struct Question {
+    pub name: &'static str,
+    pub holds: bool,
+    pub words: String,
+}
+
+/// Whether a stream may be loaded.
+pub struct Verdict {
+    /// None where neither the desk nor the stream names it.
+    pub part: Option<Part>,
+    pub range: Option<NamedRange>,
+    pub effects: Effects,
+    pub questions: Vec<Question>,
+}
+
+impl Verdict {
+    /// The verdict for the part that the place names, or else for the stream's own.
+    pub fn of(stream: &[u8], place: &Place) -> Self {
+        let of_stream = || StreamPart::of(stream);
+        let tried = place.part.map(StreamPart::given).or_else(of_stream);
+        let effects = match tried {
+            Some(tried) => Effects::of(Walk::new(tried.part, stream)),
+            None => Effects::of_hunting(stream.len()),
+        };
+        let part = tried.filter(|it| it.is_named).map(|it| it.part);
+        // Whose stream it is, where the desk's part has not taken it for its own.
+        let is_others = effects.sync.is_some() && !effects.idcode_accepted;
+        let other = place.part.filter(|_| is_others).and_then(|_| of_stream());
+        let other = other.filter(|it| it.is_named).map(|it| it.part);
+        let range = place.range.clone();
+        let questions = match effects.sync {
+            Some(offset) => questions(offset, &effects, [part, other], range.as_ref()),
+            None => vec![no_sync(stream)],
+        };
+        Self {
+            part,
+            range,
+            effects,
+            questions,
+        }
+    }
+
+    /// The answer in a word.
+    pub fn answer(&self) -> &'static str {
+        match self.passes() {
+            true => "PASS",
+            false => "FAIL",
+        }
+    }
+
+    pub fn passes(&self) -> bool {
+        self.questions.iter().all(|question| question.holds)
+    }
+
+    /// What a reader should know beside the answers.
+    pub fn notes(&self) -> Vec<String> {
+        let effects = &self.effects;
+        let mut notes = Vec::new();
+        if effects.sync.is_none() {
+            return notes;
+        }
+        let stored = &effects.stored;
+        let count = counted(stored.len() as u64, "frame");
+        notes.push(match (stored.is_empty(), effects.stop) {
+            (true, _) => "stores no frame".to_string(),
+            (false, None) => format!("stores {count}: {stored}"),
+            (false, Some(_)) => format!("already overwritten at the stop, {count}: {stored}"),
+        });
+        if effects.started {
+            notes.push("the part starts".to_string());
+        }
+        if self.range.is_none() {
+            notes.push(NO_RANGE.to_string());
+        }
+        notes
+    }
+
+    /// The frames stored outside the range.
+    pub fn outside(&self) -> FrameSet {
+        self.effects.outside(self.range.as_ref())
+    }
+}
+
+/// What a verdict asks, in the order in which a reader needs it.
+fn questions(
+    sync: usize,
+    effects: &Effects,
+    [part, other]: [Option<Part>; 2],
+    range: Option<&NamedRange>,
+) -> Vec<Question> {
+    let mut questions = vec![
+        question("sync", true, format!("sync word met at offset {sync}")),
+        part_named(effects, part, other),
+        no_stop(effects),
+        is_whole(effects),
+    ];
+    if let Some(range) = range {
+        questions.extend([in_range(effects, range), frames_only(effects)]);
+    }
+    questions.push(checked(effects));
+    questions
+}
+
+fn question(name: &'static str, holds: bool, words: impl Into<String>) -> Question {
+    let words = words.into();
+    Question { name, holds, words }
+}
+
+fn no_sync(stream: &[u8]) -> Question {
+    let length = counted(stream.len() as u64, "byte");
+    let guess = guess::looks_like(stream);
+    question("sync", false, format!("no sync word in {length}: {guess}"))
+}
+
+/// `other` is the part that accepts the stream's IDCODE where `part` did not.
+fn part_named(effects: &Effects, part: Option<Part>, other: Option<Part>) -> Question {
+    let words = match (part, other) {
+        (Some(part), _) if effects.idcode_accepted => {
+            let name = part.name();
+            return question("part", true, format!("the stream is for the {name}"));
+        }
+        (Some(part), Some(other)) => {
+            format!(
+                "the stream is for the {}, not the {}",
+                other.name(),
+                part.name()
+            )
+        }
+        _ => "the stream names no part: no IDCODE was accepted".to_string(),
+    };
+    question("part", false, words)
+}
+
+fn no_stop(effects: &Effects) -> Question {
+    match &effects.stop {
+        None => question("stop", true, "no stop"),
+        Some(stop) => question("stop", false, stop.to_string()),
+    }
+}
+
+fn is_whole(effects: &Effects) -> Question {
+    let follows = match effects.follows() {
+        0 => "nothing follows its end".to_string(),
+        bytes => format!(
+            "{} after its end, not taken as packets",
+            counted(bytes as u64, "byte")
+        ),
+    };
+    match effects.end {
+        Phase::Hunting => question(
+            "whole",
+            true,
+            format!("whole: ends waiting for sync; {follows}"),
+        ),
+        Phase::Stopped { .. } => {
+            let words = match effects.follows() {
+                0 => "not taken to its end: stopped at its last word".to_string(),
+                left => format!(
+                    "not taken to its end: {} left",
+                    counted(left as u64, "byte")
+                ),
+            };
+            question("whole", false, words)
+        }
+        Phase::Header { .. } => question("whole", false, "cut short: no DESYNC at its end"),
+        Phase::Crc => question("whole", false, "cut short: ends before an auto CRC word"),
+        Phase::Data { register, left } => {
+            let (name, left) = (words::register_name(register), counted(left.into(), "word"));
+            question(
+                "whole",
+                false,
+                format!("cut short: ends within data for {name}, {left} missing"),
+            )
+        }
+    }
+}
+
+fn in_range(effects: &Effects, range: &NamedRange) -> Question {
+    let outside = effects.outside(Some(range));
+    match outside.is_empty() {
+        true => question("range", true, "every stored frame is in the range"),
+        false => {
+            let count = counted(outside.len() as u64, "frame");
+            question(
+                "range",
+                false,
+                format!("{count} stored outside the range: {outside}"),
+            )
+        }
+    }
+}
+
+fn frames_only(effects: &Effects) -> Question {
+    let told = |action: &WholePartAction| format!("{} at offset {}", action.what, action.offset);
+    let first = effects.whole_part.iter().take(MOST_TOLD);
+    let actions: Vec<String> = first.map(told).collect();
+    let more = match effects.whole_part_count.saturating_sub(actions.len()) {
+        0 => String::new(),
+        more => format!(" and {more} more"),
+    };
+    match actions.is_empty() {
+        true => question("frames-only", true, "nothing acts on the whole part"),
+        false => {
+            let words = format!("acts on the whole part: {}{more}", actions.join(", "));
+            question("frames-only", false, words)
+        }
+    }
+}
+
+fn checked(effects: &Effects) -> Question {
+    match (effects.last_store, effects.check_after) {
+        (None, _) => question("crc", true, "no frame is stored, so none needs a CRC check"),
+        (_, Some(offset)) => {
+            let words =
+                format!("a CRC check passed after the last stored frame, at offset {offset}");
+            question("crc", true, words)
+        }
+        (Some(_), None) => question(
+            "crc",
+            false,
+            "no CRC check passed after the last stored frame",
+        ),
+    }
+}
