@@ -1,0 +1,172 @@
+//! The input files of the stored runs, built anew for every test.
+
+use crate::common::streams::{
+    begun, behind_bit_header, bits_reversed, frame_write, frames, full, gzip, hex_text, layout,
+    multi_frame_write, multiple, partial, starting, stopped, turned, unchecked,
+};
+use seamwillow_tests::names::register;
+use seamwillow_tests::reference::PARTS;
+use seamwillow_tests::stream::Stream;
+
+type Files = Vec<(String, Vec<u8>)>;
+
+/// The XC3S50's good stream has its auto CRC word from here on.
+const AUTO_CRC: usize = 4 * (14 + 3 * 37);
+
+pub fn all() -> Files {
+    let named = [streams(), cut(), strange(), layouts(), refused_layouts()];
+    let named = named.into_iter().flatten();
+    let mut files: Files = named.map(|(name, it)| (name.to_string(), it)).collect();
+    for (device, part) in (0..).zip(&PARTS) {
+        files.push((format!("{}.bit", part.name), partial(device)));
+        files.push((format!("{}-full.bit", part.name), full(device)));
+    }
+    for number in 1..=10 {
+        files.push((format!("stop{number}.bit"), stopped(number)));
+    }
+    let desks = DESKS.iter();
+    files.extend(desks.map(|(name, text)| (format!("{name}.desk"), text.as_bytes().to_vec())));
+    files
+}
+
+type Named = Vec<(&'static str, Vec<u8>)>;
+
+fn streams() -> Named {
+    let mut no_idcode = Stream::synced();
+    no_idcode.write(register::FLR, &[36]).check();
+    let mut wrong_idcode = Stream::synced();
+    wrong_idcode.write(register::IDCODE, &[0x0140_D094]);
+    let good = partial(0);
+    let mut bit_flipped = good.clone();
+    bit_flipped[200] ^= 1;
+    let mut image = vec![0; PARTS[0].memory_bytes()];
+    let written = frames(0, 2);
+    let written = written.iter().flat_map(|word| word.to_be_bytes());
+    image.splice(3 * 148..5 * 148, written);
+    vec![
+        ("multiple.bit", multiple(0)),
+        ("starting.bit", starting()),
+        ("unchecked.bit", unchecked()),
+        ("no-idcode.bit", no_idcode.into_bytes()),
+        ("wrong-idcode.bit", wrong_idcode.into_bytes()),
+        ("twice.bit", [good.as_slice(), &multiple(0)].concat()),
+        (
+            "trailing.bit",
+            [good.as_slice(), b"\x20\0\0\0\x20\0\0\0"].concat(),
+        ),
+        ("odd.bit", odd()),
+        ("bit-flipped.bit", bit_flipped),
+        ("bit-header.bit", behind_bit_header(&good)),
+        ("XC3S50.img", image),
+    ]
+}
+
+/// Headers of no words, padding, and a command that acts again at a FAR write.
+fn odd() -> Vec<u8> {
+    let mut stream = begun(0);
+    stream
+        .words(&[0, 0x3000_4000, 0x5000_0000, 0x3000_2000])
+        .no_ops(2)
+        .command(3)
+        .write(register::FAR, &[0x0600_0000])
+        .write(register::COR, &[1, 2])
+        .command(13)
+        .words(&[0xAA99_5566])
+        .write(register::FAR, &[0]);
+    stream.into_bytes()
+}
+
+/// The good stream, cut in each phase.
+fn cut() -> Named {
+    let good = partial(0);
+    let up_to = |length: usize| good[..length].to_vec();
+    vec![
+        ("cut-hunting.bit", up_to(7)),
+        ("cut-header.bit", up_to(36)),
+        ("cut-word.bit", up_to(39)),
+        ("cut-data.bit", up_to(AUTO_CRC - 150)),
+        ("cut-data-rest.bit", good[AUTO_CRC - 150..].to_vec()),
+        ("cut-before-crc.bit", up_to(AUTO_CRC)),
+        ("cut-before-desync.bit", up_to(good.len() - 8)),
+    ]
+}
+
+/// Files that are no stream, or one in other clothes.
+fn strange() -> Named {
+    let good = partial(0);
+    let mut damaged_sync = good.clone();
+    damaged_sync[5] ^= 4;
+    vec![
+        ("empty.bit", Vec::new()),
+        ("one-byte.bit", vec![0xAA]),
+        ("zeros.bit", vec![0; 1000]),
+        ("ones.bit", vec![0xFF; 1000]),
+        ("ones.img", vec![0xFF; PARTS[0].memory_bytes()]),
+        ("damaged-sync.bit", damaged_sync),
+        ("bits-reversed.bit", bits_reversed(&good)),
+        ("pairs-swapped.bit", turned(&good, 2)),
+        ("words-reversed.bit", turned(&good, 4)),
+        (
+            "words-reversed-odd.bit",
+            [&[0xFF][..], &turned(&good, 4)].concat(),
+        ),
+        ("gzip.bit", gzip()),
+        ("zip.bit", b"PK\x03\x04\x14\0\0\0".to_vec()),
+        ("xz.bit", b"\xFD7zXZ\0\0\x04".to_vec()),
+        ("hex.txt", hex_text(&good)),
+        ("junk.bit", (0..=255).rev().collect()),
+    ]
+}
+
+fn layouts() -> Named {
+    let both = [frame_write(0, 3, 2), multi_frame_write(0, &[1, 367])];
+    vec![
+        ("good.layout", layout(0, &both)),
+        ("left.layout", layout(0, &[frame_write(0, 3, 2)])),
+        ("no-steps.layout", layout(0, &[])),
+        ("other-part.layout", layout(1, &[frame_write(1, 614, 1)])),
+    ]
+}
+
+fn refused_layouts() -> Named {
+    let one = |step: Vec<u8>| layout(0, &[step]);
+    let good = one(frame_write(0, 3, 2));
+    vec![
+        ("long-number.layout", vec![0x81, 0, 0, 0]),
+        ("edition2.layout", vec![2, 0, 0]),
+        ("device9.layout", vec![1, 9, 0]),
+        ("short.layout", good[..100].to_vec()),
+        ("extra.layout", [&good[..], b"\x01\x02"].concat()),
+        ("kind3.layout", one(vec![3, 0, 1])),
+        ("no-count.layout", one(vec![1, 3, 0])),
+        ("falling.layout", one(multi_frame_write(0, &[3, 1]))),
+        ("past.layout", one(frame_write(0, 367, 2))),
+        ("past-range.layout", vec![1, 0, 1, 1, 0x80, 2, 1]),
+    ]
+}
+
+const DESKS: &[(&str, &str)] = &[
+    (
+        "good",
+        "# the desk by the window\npart XC3S50\n\nseat left 3:2 # two frames\nseat right 200:100\n",
+    ),
+    ("no-seats", "part XC3S50\n"),
+    ("empty", ""),
+    ("keyword", "part XC3S50\nchair left 3:2\n"),
+    ("no-part", "seat left 3:2\n"),
+    ("part-twice", "part XC3S50\npart XC3S50\n"),
+    ("part-unknown", "part XC3S51\n"),
+    ("part-bare", "part\n"),
+    ("part-two-words", "part XC3S50 XC3S200\n"),
+    ("seat-bare", "part XC3S50\nseat\n"),
+    ("seat-no-frames", "part XC3S50\nseat left\n"),
+    ("seat-word", "part XC3S50\nseat left three:2\n"),
+    ("seat-large", "part XC3S50\nseat left 3:4294967296\n"),
+    ("seat-twice", "part XC3S50\nseat left 3:2\nseat left 5:2\n"),
+    ("seat-runs", "part XC3S50\nseat left 3:2 7:2\n"),
+    ("seat-past", "part XC3S50\nseat left 364:5\n"),
+    ("seat-of-none", "part XC3S50\nseat left 3:0\n"),
+    ("windows", "part XC3S50\r\nseat left 3:2\r\n"),
+    // A byte order mark, as some editors put before the text.
+    ("marked", "\u{feff}part XC3S50\nseat left 3:2\n"),
+];
