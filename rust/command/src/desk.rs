@@ -3,6 +3,7 @@
 use crate::failure::{Failure, Message};
 use crate::input::Input;
 use crate::part::Part;
+use crate::runs::FrameSet;
 use crate::words;
 use seamwillow_library::FrameRange;
 use std::ffi::OsStr;
@@ -20,6 +21,11 @@ impl NamedRange {
     pub fn owns(&self, frame: u32) -> bool {
         let first = u64::from(self.frames.first);
         (first..first + u64::from(self.frames.count)).contains(&u64::from(frame))
+    }
+
+    /// Those of the frames that the range does not have.
+    pub fn outside(&self, frames: &FrameSet) -> FrameSet {
+        frames.filtered(|frame| !self.owns(frame))
     }
 }
 

@@ -1,6 +1,5 @@
 //! What a stream does to a part: where it syncs and stops, what it stores, what it acts on.
 
-use crate::desk::NamedRange;
 use crate::part::Part;
 use crate::runs::FrameSet;
 use crate::walk::{Step, Walk};
@@ -143,12 +142,6 @@ impl Effects {
             self.last_store = Some(step.offset);
             self.check_after = None;
         }
-    }
-
-    /// The frames stored outside a range; none where there is no range.
-    pub fn outside(&self, range: Option<&NamedRange>) -> FrameSet {
-        let is_outside = |frame| range.is_some_and(|range| !range.owns(frame));
-        self.stored.filtered(is_outside)
     }
 
     /// The bytes after the place from which the part only waited for sync.

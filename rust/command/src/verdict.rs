@@ -95,9 +95,10 @@ impl Verdict {
         notes
     }
 
-    /// The frames stored outside the range.
+    /// The frames stored outside the range; none where there is no range.
     pub fn outside(&self) -> FrameSet {
-        self.effects.outside(self.range.as_ref())
+        let outside = |range: &NamedRange| range.outside(&self.effects.stored);
+        self.range.as_ref().map_or_else(FrameSet::default, outside)
     }
 }
 
@@ -196,7 +197,7 @@ fn is_whole(effects: &Effects) -> Question {
 }
 
 fn in_range(effects: &Effects, range: &NamedRange) -> Question {
-    let outside = effects.outside(Some(range));
+    let outside = range.outside(&effects.stored);
     match outside.is_empty() {
         true => question("range", true, "every stored frame is in the range"),
         false => {

@@ -12,6 +12,7 @@ use seamwillow_library::{
     self as library,
     record::{Phase, Record},
 };
+use std::ops::Range;
 
 const WORD: usize = 4;
 /// The first look for a sync word, which often comes first; each next one is twice as long.
@@ -176,9 +177,9 @@ impl<'a> Walk<'a> {
         let (mut passed, mut look) = (0, FIRST_LOOK);
         while passed < rest.len() {
             let end = rest.len().min(passed + look);
-            match self.synced(&hunter, &rest[passed..end]) {
-                Ok(still_hunting) => hunter = still_hunting,
-                Err(()) => return passed + self.first_sync(&hunter, &rest[passed..end]),
+            match self.still_hunting(&hunter, &rest[passed..end]) {
+                Some(after) => hunter = after,
+                None => return passed + self.first_sync(&hunter, &rest[passed..end]),
             }
             passed = end;
             look *= 2;
@@ -186,13 +187,13 @@ impl<'a> Walk<'a> {
         passed
     }
 
-    /// The hunting part after some bytes; an error where they hold a sync word.
-    fn synced(&mut self, hunter: &Record, bytes: &[u8]) -> Result<Record, ()> {
+    /// A part that hunts with CMD 0 after some bytes; none where they hold a sync word.
+    fn still_hunting(&mut self, hunter: &Record, bytes: &[u8]) -> Option<Record> {
         let mut after = hunter.clone();
         after.load(&mut self.scratch, bytes);
         let hunts =
             after.phase() == Phase::Hunting && after.register(register::CMD) == command::NULL;
-        hunts.then_some(after).ok_or(())
+        hunts.then_some(after)
     }
 
     /// The shortest beginning of the bytes that ends the hunt.
@@ -200,9 +201,9 @@ impl<'a> Walk<'a> {
         let (mut hunted, mut ended) = (0, bytes.len());
         while hunted + 1 < ended {
             let middle = hunted + (ended - hunted) / 2;
-            match self.synced(hunter, &bytes[..middle]) {
-                Ok(_) => hunted = middle,
-                Err(()) => ended = middle,
+            match self.still_hunting(hunter, &bytes[..middle]) {
+                Some(_) => hunted = middle,
+                None => ended = middle,
             }
         }
         ended
@@ -236,7 +237,7 @@ impl<'a> Walk<'a> {
         (taken as usize, stored)
     }
 
-    fn place(&self, frame: u32) -> std::ops::Range<usize> {
+    fn place(&self, frame: u32) -> Range<usize> {
         let length = WORD * self.part.figures.frame_words as usize;
         let start = length * frame as usize;
         start..start + length

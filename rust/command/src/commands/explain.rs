@@ -296,9 +296,8 @@ impl<'a> Explainer<'a> {
             self.detail(&format!("stores {place}"));
         }
         let range = self.range.as_ref();
-        let is_outside = |frame| range.is_some_and(|range| !range.owns(frame));
-        let outside = step.stored.filtered(is_outside);
-        if !outside.is_empty() {
+        let outside = range.map(|range| range.outside(&step.stored));
+        if let Some(outside) = outside.filter(|frames| !frames.is_empty()) {
             self.detail(&format!("OUTSIDE the range: {outside}"));
         }
     }
