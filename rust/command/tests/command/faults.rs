@@ -6,6 +6,7 @@ use crate::common::streams::{frame_write, full, layout, multiple, partial, stopp
 use crate::common::{Scratch, Told};
 use std::ffi::OsStr;
 use std::fs::{self, File, Permissions};
+use std::io;
 use std::os::unix::ffi::OsStrExt;
 use std::os::unix::fs::{symlink, PermissionsExt};
 use std::process::{Command, Stdio};
@@ -48,7 +49,6 @@ fn files_that_cannot_be_read() {
 #[test]
 fn a_closed_pipe_is_quiet() {
     let scratch = scratch("pipe");
-    // The status of the command itself goes to a file, as the shell tells that of `head`.
     let lines = [
         "explain --all full.bit",
         "check good.bit",
@@ -59,12 +59,14 @@ fn a_closed_pipe_is_quiet() {
         "load good.bit -o -",
     ];
     for line in lines {
-        // The reader is gone before the command writes.
-        let closed = format!("{{ sleep 0.05; \"$0\" {line}; echo $? >status; }} | true");
-        let told = Told::of(scratch.shell(&closed));
-        assert_eq!(told.err, "", "{line}");
-        assert_eq!(scratch.read("status"), b"2\n", "{line}");
+        let (reader, writer) = io::pipe().expect("there are pipes");
+        drop(reader);
+        let mut command = scratch.command(line.split(' '));
+        command.stdout(writer);
+        let told = Told::of(command);
+        assert_eq!((told.status, told.err.as_str()), (2, ""), "{line}");
     }
+    // The status of the command itself goes to a file, as the shell tells that of `head`.
     let first = "{ \"$0\" explain --all full.bit; echo $? >status; } | head -1";
     let told = Told::of(scratch.shell(first));
     assert_eq!(told.text(), "full.bit: 54908 bytes for the XC3S50\n");
