@@ -32,10 +32,7 @@ pub fn elements(document: &str) -> Result<Vec<Element>, String> {
             continue;
         }
         if let Some(name) = tag.strip_prefix('/') {
-            let last = open.pop().ok_or(format!("</{name}> closes nothing"))?;
-            if last != name.trim_end() {
-                return Err(format!("</{name}> closes <{last}>"));
-            }
+            close(&mut open, name.trim_end())?;
             continue;
         }
         let (body, is_closed) = tag
@@ -57,6 +54,15 @@ pub fn elements(document: &str) -> Result<Vec<Element>, String> {
         (Some(name), _) => Err(format!("<{name}> is not closed")),
         (None, 1) => Ok(elements),
         (None, _) => Err(format!("{roots} elements at the top")),
+    }
+}
+
+/// Closes the element that was opened last, which must have this name.
+fn close(open: &mut Vec<String>, name: &str) -> Result<(), String> {
+    match open.pop() {
+        Some(last) if last == name => Ok(()),
+        Some(last) => Err(format!("</{name}> closes <{last}>")),
+        None => Err(format!("</{name}> closes nothing")),
     }
 }
 
