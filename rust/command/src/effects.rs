@@ -3,17 +3,16 @@
 use crate::part::Part;
 use crate::runs::FrameSet;
 use crate::walk::{Step, Walk};
-use crate::words;
-use seamwillow_library::record::Phase;
+use crate::words::{self, counted, register};
+use seamwillow_library::record::{Phase, Record};
 use std::fmt;
 
-/// Of many actions on the whole part the first are kept.
-const MOST_ACTIONS: usize = 16;
-/// The IDCODE is looked for in so many steps: a stream that writes frames has it early.
-const MOST_STEPS: usize = 10_000;
+/// Stops whose words are followed by more of what is known.
+const WRONG_IDCODE: u32 = 4;
+const TOO_EARLY: u32 = 6;
 
 /// A word at which the part stopped.
-#[derive(Clone, Copy, Debug)]
+#[derive(Clone, Debug)]
 pub struct Stop {
     pub number: u32,
     /// Where the bad word begins.
@@ -22,6 +21,39 @@ pub struct Stop {
     pub word: u32,
     /// The word that would have passed, where a check failed.
     pub passing: Option<u32>,
+    /// What frame data waits for, as it stood, where the data came too early.
+    pub state: Option<String>,
+}
+
+impl Stop {
+    /// The stop that a step ended with.
+    pub fn of(step: &Step, number: u32, stream: &[u8]) -> Self {
+        Self {
+            number,
+            offset: step.last_word(),
+            word: step.word(stream),
+            passing: step.passing_word(),
+            state: (number == TOO_EARLY).then(|| state_words(&step.before)),
+        }
+    }
+
+    /// The IDCODE that the part did not take for its own.
+    pub fn wrong_idcode(&self) -> Option<u32> {
+        (self.number == WRONG_IDCODE).then_some(self.word)
+    }
+}
+
+/// What a part must have before frame data may come.
+fn state_words(record: &Record) -> String {
+    let flags = record.flags();
+    let no = |holds: bool| if holds { "" } else { "no " };
+    let frame = if flags.buffer_valid { "a" } else { "no" };
+    let (command, _) = words::command_words(record.register(register::CMD));
+    format!(
+        "{}IDCODE and {}FLR accepted, CMD is {command}, {frame} frame loaded",
+        no(flags.idcode_accepted),
+        no(flags.flr_accepted)
+    )
 }
 
 impl fmt::Display for Stop {
@@ -29,22 +61,24 @@ impl fmt::Display for Stop {
         let (number, offset) = (self.number, self.offset);
         let meaning = words::meaning(number);
         write!(out, "stop {number} at offset {offset}: {meaning}")?;
+        if let Some(state) = &self.state {
+            write!(out, " ({state})")?;
+        }
+        write!(out, "; {:08X} stands there", self.word)?;
         match self.passing {
-            Some(passing) => write!(
-                out,
-                "; {:08X} stands there, {passing:08X} would have passed",
-                self.word
-            ),
-            None => write!(out, "; {:08X} stands there", self.word),
+            Some(passing) => write!(out, ", {passing:08X} would have passed"),
+            None => Ok(()),
         }
     }
 }
 
-/// A word that acts on more than frames.
+/// Words that act on more than frames, all of one kind.
 #[derive(Clone, Debug)]
 pub struct WholePartAction {
-    pub offset: usize,
     pub what: String,
+    /// Where the first of them stands.
+    pub offset: usize,
+    pub count: usize,
 }
 
 /// What a stream did, from its first byte to its end or stop.
@@ -66,9 +100,8 @@ pub struct Effects {
     pub last_store: Option<usize>,
     /// Where the first check that passed after it stands.
     pub check_after: Option<usize>,
-    /// The first few words that act on the whole part, and how many there are.
+    /// What acts on the whole part, each kind once.
     pub whole_part: Vec<WholePartAction>,
-    pub whole_part_count: usize,
 }
 
 impl Effects {
@@ -87,15 +120,14 @@ impl Effects {
             last_store: None,
             check_after: None,
             whole_part: Vec::new(),
-            whole_part_count: 0,
         }
     }
 
-    /// What a stream does to a part.
-    pub fn of(mut walk: Walk) -> Self {
+    /// What a stream does to a part, which is then as the stream leaves it.
+    pub fn of(walk: &mut Walk) -> Self {
         let stream = walk.stream();
         let mut effects = Self::of_hunting(stream.len());
-        for step in &mut walk {
+        for step in walk.by_ref() {
             effects.note(&step, stream);
         }
         let flags = walk.record().flags();
@@ -114,25 +146,28 @@ impl Effects {
         if before != Phase::Hunting && after == Phase::Hunting {
             self.waits_from = self.taken;
         }
-        if let Phase::Stopped { number } = after {
-            self.stop = Some(Stop {
-                number,
-                offset: step.last_word(),
-                word: step.word(stream),
-                passing: step.passing_word(),
-            });
-            return self.note_stores(step);
-        }
         self.note_stores(step);
+        if let Phase::Stopped { number } = after {
+            self.stop = Some(Stop::of(step, number, stream));
+            return;
+        }
         if step.passes_check() && self.last_store.is_some() && self.check_after.is_none() {
             self.check_after = Some(step.offset);
         }
         if let Some(what) = step.whole_part_action() {
-            let offset = step.offset;
-            self.whole_part_count += 1;
-            if self.whole_part.len() < MOST_ACTIONS {
-                self.whole_part.push(WholePartAction { offset, what });
-            }
+            self.note_action(what, step);
+        }
+    }
+
+    fn note_action(&mut self, what: String, step: &Step) {
+        let (offset, count) = (step.offset, step.words());
+        match self.whole_part.iter_mut().find(|it| it.what == what) {
+            Some(action) => action.count += count,
+            None => self.whole_part.push(WholePartAction {
+                what,
+                offset,
+                count,
+            }),
         }
     }
 
@@ -141,6 +176,17 @@ impl Effects {
             self.stored.extend(&step.stored);
             self.last_store = Some(step.offset);
             self.check_after = None;
+        }
+    }
+
+    /// The frames that are stored, in words.
+    pub fn told(&self) -> String {
+        let stored = &self.stored;
+        let count = counted(stored.len() as u64, "frame");
+        match (stored.is_empty(), &self.stop) {
+            (true, _) => "stores no frame".to_string(),
+            (false, None) => format!("stores {count}: {stored}"),
+            (false, Some(_)) => format!("already overwritten at the stop, {count}: {stored}"),
         }
     }
 
@@ -185,18 +231,14 @@ impl StreamPart {
     }
 
     fn tried(part: Part, stream: &[u8]) -> Self {
-        let mut tried = Self {
+        let mut memory = part.memory(0);
+        let (_, mut record) = Record::power_on(part.device, &mut memory);
+        let (_, taken) = record.load(&mut memory, stream);
+        Self {
             part,
-            is_named: false,
-            taken: 0,
-        };
-        for step in Walk::new(part, stream).take(MOST_STEPS) {
-            tried.taken = step.offset + step.length;
-            tried.is_named = step.after.flags().idcode_accepted;
-            if tried.is_named {
-                break;
-            }
+            // Once accepted it stays so until power-on.
+            is_named: record.flags().idcode_accepted,
+            taken: taken as usize,
         }
-        tried
     }
 }

@@ -75,6 +75,14 @@ impl Failure {
         Self::Trouble(Message::of_file(name, system_words(error)))
     }
 
+    /// What is told of a file.
+    pub fn message(&self) -> Option<&Message> {
+        match self {
+            Self::Refused(message) | Self::Trouble(message) => Some(message),
+            _ => None,
+        }
+    }
+
     pub fn status(&self) -> u8 {
         match self {
             Self::Told | Self::Refused(_) => NO,

@@ -1,13 +1,14 @@
 //! What a file without a sync word looks like.
 
+use crate::failure::Message;
+use crate::input::Input;
 use crate::part::Part;
-use crate::walk::{Step, Walk};
+use crate::walk::{Step, Walk, WORD};
 use crate::words::{self, counted};
 use seamwillow_library as library;
 
 /// The beginning that is looked at: a sync word stands early.
 const HEAD: usize = 4096;
-const WORD: usize = 4;
 
 type Reorder = fn(&mut [u8]);
 
@@ -17,6 +18,12 @@ const REORDERS: [(&str, Reorder); 3] = [
     ("the bytes of every pair are swapped", swap_pairs),
     ("the bytes of every word are reversed", reverse_words),
 ];
+
+/// What is told of a file that is no stream.
+pub fn no_sync(input: &Input) -> Message {
+    let guess = looks_like(&input.bytes);
+    Message::of_file(&input.name, format!("no sync word: {guess}"))
+}
 
 /// One sentence on what the file may be.
 pub fn looks_like(bytes: &[u8]) -> String {

@@ -35,18 +35,22 @@ impl Input {
     }
 
     fn read_up_to(path: &OsStr, most: u64) -> Result<Self, Failure> {
-        let is_standard = path == "-";
-        let file = match is_standard {
-            true => "standard input".to_string(),
-            false => path.to_string_lossy().into_owned(),
-        };
-        let bytes = match is_standard {
+        let file = file_name(path);
+        let bytes = match path == "-" {
             true => bytes_of(io::stdin().lock(), most),
             false => File::open(path).and_then(|file| bytes_of(file, most)),
         };
         let bytes = bytes.map_err(|error| Failure::file(&file, &error))?;
         let name = plain(&file);
         Ok(Self { name, file, bytes })
+    }
+}
+
+/// A file's name as it is, for programs.
+pub fn file_name(path: &OsStr) -> String {
+    match path == "-" {
+        true => "standard input".to_string(),
+        false => path.to_string_lossy().into_owned(),
     }
 }
 

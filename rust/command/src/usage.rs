@@ -73,7 +73,8 @@ One verdict a file, PASS or FAIL, on what a part just powered on would do with t
 word is met, the part is the desk's, nothing stops, the stream is whole, and a CRC check passes
 after the last stored frame. With a range, every stored frame is in it and nothing acts on the
 whole part (commands other than NULL, RCRC, WCFG, MFWR, RCFG, DESYNC; words to CTL, MASK, COR, LOUT).
-Without --part and --desk the part is the one whose IDCODE the stream has.
+Without --part and --desk the part is the one whose IDCODE the stream has. A desk needs a seat or
+frames; without any, every frame is taken, and the verdict says so.
 ",
     options: "  --json                for programs: a list with one object a file
 ",
@@ -97,7 +98,8 @@ pub const MAP: Help = Help {
        seamwillow map [OPTION..] --image IMAGE
 
 Which frames a stream writes, or which frames of a memory image are not blank, column by column:
-# in the range, ! outside it, o in the range and kept, . other. Exit status as for check.
+# in the range, ! outside it, o in the range and kept, . other. A desk needs a seat or frames, and
+the exit status is the verdict's, as for check.
 ",
     options: "  --image IMAGE         a memory image in place of a stream
   --svg FILE            the picture as SVG

@@ -3,6 +3,7 @@
 use crate::desk::{NamedRange, Place};
 use crate::effects::{Effects, StreamPart, WholePartAction};
 use crate::guess;
+use crate::output;
 use crate::part::Part;
 use crate::runs::FrameSet;
 use crate::walk::Walk;
@@ -12,9 +13,6 @@ use seamwillow_library::record::Phase;
 /// What a verdict without a range leaves open.
 pub const NO_RANGE: &str =
     "no --seat and no --frames: whether these frames may be written was not asked";
-
-/// Of many actions on the whole part the first few are told.
-const MOST_TOLD: usize = 4;
 
 /// One of the things that a verdict asks, and its answer in words.
 #[derive(Debug)]
@@ -38,8 +36,9 @@ impl Verdict {
     pub fn of(stream: &[u8], place: &Place) -> Self {
         let of_stream = || StreamPart::of(stream);
         let tried = place.part.map(StreamPart::given).or_else(of_stream);
-        let effects = match tried {
-            Some(tried) => Effects::of(Walk::new(tried.part, stream)),
+        let mut walk = tried.map(|tried| Walk::new(tried.part, stream));
+        let effects = match &mut walk {
+            Some(walk) => Effects::of(walk),
             None => Effects::of_hunting(stream.len()),
         };
         let part = tried.filter(|it| it.is_named).map(|it| it.part);
@@ -48,10 +47,16 @@ impl Verdict {
         let other = place.part.filter(|_| is_others).and_then(|_| of_stream());
         let other = other.filter(|it| it.is_named).map(|it| it.part);
         let range = place.range.clone();
-        let questions = match effects.sync {
-            Some(offset) => questions(offset, &effects, [part, other], range.as_ref()),
+        let asked = |effects: &Effects| questions(effects, [part, other], range.as_ref());
+        let mut questions = match effects.sync {
+            Some(_) => asked(&effects),
             None => vec![no_sync(stream)],
         };
+        // A part in use keeps registers and the current frame, on which a stream may depend.
+        if let Some(walk) = walk.filter(|_| all_hold(&questions)) {
+            let again = Effects::of(&mut walk.again());
+            questions.push(does_the_same(&effects, &again, &asked(&again)));
+        }
         Self {
             part,
             range,
@@ -68,8 +73,17 @@ impl Verdict {
         }
     }
 
+    /// The answer in its colour, where colours are wanted.
+    pub fn painted(&self) -> String {
+        let colour = match self.passes() {
+            true => output::GREEN,
+            false => output::RED,
+        };
+        output::painted(self.answer(), colour)
+    }
+
     pub fn passes(&self) -> bool {
-        self.questions.iter().all(|question| question.holds)
+        all_hold(&self.questions)
     }
 
     /// What a reader should know beside the answers.
@@ -79,13 +93,7 @@ impl Verdict {
         if effects.sync.is_none() {
             return notes;
         }
-        let stored = &effects.stored;
-        let count = counted(stored.len() as u64, "frame");
-        notes.push(match (stored.is_empty(), effects.stop) {
-            (true, _) => "stores no frame".to_string(),
-            (false, None) => format!("stores {count}: {stored}"),
-            (false, Some(_)) => format!("already overwritten at the stop, {count}: {stored}"),
-        });
+        notes.push(effects.told());
         if effects.started {
             notes.push("the part starts".to_string());
         }
@@ -104,13 +112,12 @@ impl Verdict {
 
 /// What a verdict asks, in the order in which a reader needs it.
 fn questions(
-    sync: usize,
     effects: &Effects,
     [part, other]: [Option<Part>; 2],
     range: Option<&NamedRange>,
 ) -> Vec<Question> {
     let mut questions = vec![
-        question("sync", true, format!("sync word met at offset {sync}")),
+        synced(effects),
         part_named(effects, part, other),
         no_stop(effects),
         is_whole(effects),
@@ -125,6 +132,17 @@ fn questions(
 fn question(name: &'static str, holds: bool, words: impl Into<String>) -> Question {
     let words = words.into();
     Question { name, holds, words }
+}
+
+fn all_hold(questions: &[Question]) -> bool {
+    questions.iter().all(|question| question.holds)
+}
+
+fn synced(effects: &Effects) -> Question {
+    match effects.sync {
+        Some(offset) => question("sync", true, format!("sync word met at offset {offset}")),
+        None => question("sync", false, "no sync word"),
+    }
 }
 
 fn no_sync(stream: &[u8]) -> Question {
@@ -147,9 +165,26 @@ fn part_named(effects: &Effects, part: Option<Part>, other: Option<Part>) -> Que
                 part.name()
             )
         }
-        _ => "the stream names no part: no IDCODE was accepted".to_string(),
+        _ => unnamed(effects),
     };
     question("part", false, words)
+}
+
+/// Why no part has taken the stream for its own.
+fn unnamed(effects: &Effects) -> String {
+    let Some(stop) = &effects.stop else {
+        return "the stream names no part: it has no IDCODE".to_string();
+    };
+    let Some(idcode) = stop.wrong_idcode() else {
+        return "the stream names no part: it stopped before an IDCODE".to_string();
+    };
+    match Part::by_idcode(idcode) {
+        Some(part) => format!(
+            "its IDCODE {idcode:08X} is the {}'s, but what stands before it is not",
+            part.name()
+        ),
+        None => format!("its IDCODE {idcode:08X} is no part's"),
+    }
 }
 
 fn no_stop(effects: &Effects) -> Question {
@@ -212,19 +247,21 @@ fn in_range(effects: &Effects, range: &NamedRange) -> Question {
 }
 
 fn frames_only(effects: &Effects) -> Question {
-    let told = |action: &WholePartAction| format!("{} at offset {}", action.what, action.offset);
-    let first = effects.whole_part.iter().take(MOST_TOLD);
-    let actions: Vec<String> = first.map(told).collect();
-    let more = match effects.whole_part_count.saturating_sub(actions.len()) {
-        0 => String::new(),
-        more => format!(" and {more} more"),
-    };
+    let actions: Vec<String> = effects.whole_part.iter().map(action_words).collect();
     match actions.is_empty() {
         true => question("frames-only", true, "nothing acts on the whole part"),
         false => {
-            let words = format!("acts on the whole part: {}{more}", actions.join(", "));
+            let words = format!("acts on the whole part: {}", actions.join(", "));
             question("frames-only", false, words)
         }
+    }
+}
+
+fn action_words(action: &WholePartAction) -> String {
+    let WholePartAction { what, offset, .. } = action;
+    match action.count {
+        1 => format!("{what} at offset {offset}"),
+        count => format!("{what} at offset {offset} ({count} times)"),
     }
 }
 
@@ -241,5 +278,20 @@ fn checked(effects: &Effects) -> Question {
             false,
             "no CRC check passed after the last stored frame",
         ),
+    }
+}
+
+/// Asked of a stream that passes so far: the same questions of a second load, and the same frames.
+fn does_the_same(effects: &Effects, again: &Effects, asked: &[Question]) -> Question {
+    let name = "again";
+    match asked.iter().find(|question| !question.holds) {
+        Some(Question { words, .. }) => {
+            question(name, false, format!("loaded a second time: {words}"))
+        }
+        None if again.stored != effects.stored => {
+            let words = format!("loaded a second time it {}", again.told());
+            question(name, false, words)
+        }
+        None => question(name, true, "loaded a second time it does the same"),
     }
 }

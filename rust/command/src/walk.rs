@@ -14,7 +14,8 @@ use seamwillow_library::{
 };
 use std::ops::Range;
 
-const WORD: usize = 4;
+/// Bytes of a word.
+pub const WORD: usize = 4;
 /// The first look for a sync word, which often comes first; each next one is twice as long.
 const FIRST_LOOK: usize = WORD;
 
@@ -82,9 +83,14 @@ impl Step {
         is_check.then(|| (0..=u32::from(u16::MAX)).find(passes))?
     }
 
-    /// What the step does to the whole part, in words.
+    /// How many words it ends; the first may have begun before it.
+    pub fn words(&self) -> usize {
+        (self.before.bytes_held() + self.length) / WORD
+    }
+
+    /// What its words do to the whole part, in words.
     pub fn whole_part_action(&self) -> Option<String> {
-        let register = self.register().filter(|_| self.is_whole())?;
+        let register = self.register().filter(|_| self.words() > 0)?;
         let command = self.after.register(register::CMD);
         if register == register::CMD && words::acts_on_whole_part(command) {
             return Some(words::command_words(command).0.to_string());
@@ -127,6 +133,11 @@ impl<'a> Walk<'a> {
             scratch: part.memory(0),
             idle: None,
         }
+    }
+
+    /// The same stream once more, to the part as it was left.
+    pub fn again(self) -> Self {
+        Self::resumed(self.part, self.record, self.stream)
     }
 
     pub fn stream(&self) -> &'a [u8] {
@@ -211,23 +222,12 @@ impl<'a> Walk<'a> {
 
     /// Loads the bytes into both memories: how many were taken, and the frames that they stored.
     fn load(&mut self, bytes: &[u8]) -> (usize, FrameSet) {
-        // No other words reach the memory.
-        let stores = matches!(
-            self.record.phase(),
-            Phase::Data {
-                register: register::FDRI | register::MFWR,
-                ..
-            }
-        );
-        if stores {
+        let frames = self.reached_frames();
+        if !frames.is_empty() {
             self.record.clone().load(&mut self.ones, bytes);
         }
         let (_, taken) = self.record.load(&mut self.zeros, bytes);
-        let stored = if stores {
-            self.equal_frames()
-        } else {
-            FrameSet::default()
-        };
+        let stored = self.equal_frames(frames);
         // Told apart again, so that a frame that is stored once more shows.
         for frame in stored.iter() {
             let place = self.place(frame);
@@ -243,13 +243,31 @@ impl<'a> Walk<'a> {
         start..start + length
     }
 
+    /// The frames that the next words may store: the current one to MFWR, any to FDRI.
+    fn reached_frames(&self) -> Range<u32> {
+        match self.record.phase() {
+            Phase::Data {
+                register: register::FDRI,
+                ..
+            } => 0..self.part.figures.frames,
+            Phase::Data {
+                register: register::MFWR,
+                ..
+            } => self
+                .record
+                .current_frame()
+                .map_or(0..0, |frame| frame..frame + 1),
+            _ => 0..0,
+        }
+    }
+
     /// A frame that was not stored differs in every byte, so one byte tells.
-    fn equal_frames(&self) -> FrameSet {
+    fn equal_frames(&self, frames: Range<u32>) -> FrameSet {
         let is_equal = |&frame: &u32| {
             let first = self.place(frame).start;
             self.zeros[first] == self.ones[first]
         };
-        (0..self.part.figures.frames).filter(is_equal).collect()
+        frames.filter(is_equal).collect()
     }
 }
 

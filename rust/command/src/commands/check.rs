@@ -3,10 +3,9 @@
 use crate::arguments::{Arguments, Flag};
 use crate::desk::{self, NamedRange, Place};
 use crate::effects::{Stop, WholePartAction};
-use crate::failure::Failure;
-use crate::input::Input;
+use crate::failure::{Failure, Message};
+use crate::input::{self, Input};
 use crate::json;
-use crate::output;
 use crate::runs::FrameSet;
 use crate::verdict::{Question, Verdict};
 use crate::words;
@@ -28,12 +27,12 @@ pub fn run(arguments: &Arguments) -> Result<(), Failure> {
                 }
             }
             // The other files still have their verdicts.
-            Err(failure @ (Failure::Trouble(_) | Failure::Refused(_))) => {
+            Err(failure) => {
+                objects.extend(failure.message().map(|it| error_object(file, it)));
                 failure.tell();
                 all_read &= failure.status() == crate::failure::NO;
                 all_pass = false;
             }
-            Err(failure) => return Err(failure),
         }
     }
     if arguments.has(Flag::Json) {
@@ -58,11 +57,7 @@ fn judged(file: &OsStr, place: &Place) -> Result<(Input, Verdict), Failure> {
 /// The verdict as lines: a reader who stops after the first has the answer.
 fn text(name: &str, verdict: &Verdict) -> String {
     let mut text = String::new();
-    let colour = match verdict.passes() {
-        true => output::GREEN,
-        false => output::RED,
-    };
-    let answer = output::painted(verdict.answer(), colour);
+    let answer = verdict.painted();
     let place = desk::place_words(verdict.part, verdict.range.as_ref());
     // Writing to a string does not fail.
     let _ = writeln!(text, "{answer} {name}: {place}");
@@ -107,8 +102,22 @@ fn question_object(question: &Question) -> String {
 
 fn action_object(action: &WholePartAction) -> String {
     json::object(&[
-        ("offset", action.offset.to_string()),
         ("what", json::string(&action.what)),
+        ("offset", action.offset.to_string()),
+        ("count", action.count.to_string()),
+    ])
+}
+
+/// A file without a verdict keeps its place in the list.
+fn error_object(file: &OsStr, message: &Message) -> String {
+    json::object(&[
+        ("file", json::string(&input::file_name(file))),
+        ("verdict", json::optional(None)),
+        ("error", json::string(&message.words)),
+        (
+            "number",
+            json::optional(message.number.map(|number| number.to_string())),
+        ),
     ])
 }
 
@@ -149,10 +158,6 @@ fn object(file: &str, verdict: &Verdict) -> String {
         ("taken", effects.taken.to_string()),
         ("stored", runs(&effects.stored)),
         ("stored_outside", runs(&verdict.outside())),
-        (
-            "whole_part_action_count",
-            effects.whole_part_count.to_string(),
-        ),
         (
             "whole_part_actions",
             json::list(effects.whole_part.iter().map(action_object)),

@@ -1,18 +1,17 @@
 //! `explain`: a stream packet by packet.
 
 use crate::arguments::{Arguments, Flag};
-use crate::desk::NamedRange;
-use crate::effects::StreamPart;
+use crate::desk::{NamedRange, Place};
+use crate::effects::{Stop, StreamPart};
 use crate::failure::{Failure, Message};
 use crate::guess;
 use crate::input::Input;
 use crate::part::Part;
-use crate::walk::{Step, Walk};
+use crate::walk::{Step, Walk, WORD};
 use crate::words::{self, command, counted, register};
 use seamwillow_library::record::Phase;
 use std::fmt::Write;
 
-const WORD: usize = 4;
 /// Words of frame data on a line.
 const WORDS_A_LINE: usize = 8;
 /// Bytes before the sync word that are shown.
@@ -22,15 +21,13 @@ pub fn run(arguments: &Arguments) -> Result<(), Failure> {
     let file = arguments.operand("STREAM")?;
     let place = arguments.place()?;
     let input = Input::read(file)?;
-    let no_sync = || {
-        let words = format!("no sync word: {}", guess::looks_like(&input.bytes));
-        Failure::Refused(Message::of_file(&input.name, words))
-    };
+    let no_sync = || Failure::Refused(guess::no_sync(&input));
     let of_stream = || StreamPart::of(&input.bytes);
     let read_as = place.part.map(StreamPart::given).or_else(of_stream);
     let read_as = read_as.ok_or_else(no_sync)?;
     place.judge_range(read_as.part, Some(&input.name))?;
-    let mut explainer = Explainer::new(&input, read_as, place.range);
+    let mut explainer = Explainer::new(&input, read_as.part, place.range.clone());
+    explainer.title(&input.name, &place, read_as);
     explainer.unfolds = arguments.has(Flag::All);
     let mut walk = Walk::new(read_as.part, &input.bytes);
     let (mut is_synced, mut stop) = (false, None);
@@ -75,21 +72,28 @@ struct Explainer<'a> {
 }
 
 impl<'a> Explainer<'a> {
-    fn new(input: &'a Input, read_as: StreamPart, range: Option<NamedRange>) -> Self {
-        let (part, bytes) = (read_as.part, counted(input.bytes.len() as u64, "byte"));
-        let for_part = match read_as.is_named {
-            true => format!("for the {}", part.name()),
-            false => format!("for no part, read as for the {}", part.name()),
-        };
+    fn new(input: &'a Input, part: Part, range: Option<NamedRange>) -> Self {
         Self {
             part,
             range,
             stream: &input.bytes,
             unfolds: false,
-            text: format!("{}: {bytes} {for_part}\n  offset   words\n", input.name),
+            text: String::new(),
             header: None,
             no_operations: None,
         }
+    }
+
+    fn title(&mut self, name: &str, place: &Place, read_as: StreamPart) {
+        let part = self.part.name();
+        let for_part = match (place.part, read_as.is_named) {
+            (Some(_), _) => format!(", taken by the {part}"),
+            (None, true) => format!(" for the {part}"),
+            (None, false) => format!(" for no part, read as for the {part}"),
+        };
+        let bytes = counted(self.stream.len() as u64, "byte");
+        // Writing to a string does not fail.
+        let _ = writeln!(self.text, "{name}: {bytes}{for_part}\n  offset   words");
     }
 
     fn row(&mut self, span: Span, words: &str) {
@@ -97,7 +101,6 @@ impl<'a> Explainer<'a> {
             offset,
             words: count,
         } = span;
-        // Writing to a string does not fail.
         let _ = writeln!(self.text, "{offset:>8} {count:>7}  {words}");
     }
 
@@ -110,6 +113,7 @@ impl<'a> Explainer<'a> {
         if !is_no_operation {
             self.flush_no_operations();
         }
+        self.flush_empty(step);
         match step.before.phase() {
             Phase::Hunting => self.hunt(step),
             Phase::Header { .. } if is_no_operation => self.count_no_operation(step),
@@ -152,9 +156,7 @@ impl<'a> Explainer<'a> {
     }
 
     fn count_no_operation(&mut self, step: &Step) {
-        // A header of no words is told as one of them.
-        let header = self.header.take().or(self.no_operations);
-        let span = header.unwrap_or(Span {
+        let span = self.no_operations.unwrap_or(Span {
             offset: step.offset,
             words: 0,
         });
@@ -167,6 +169,41 @@ impl<'a> Explainer<'a> {
     fn flush_no_operations(&mut self) {
         if let Some(span) = self.no_operations.take() {
             self.row(span, "no operation");
+        }
+    }
+
+    /// A packet of no words is told when the step is not its second header.
+    fn flush_empty(&mut self, step: &Step) {
+        let Phase::Header {
+            open: Some(register),
+        } = step.before.phase()
+        else {
+            return;
+        };
+        let goes_on = match step.after.phase() {
+            Phase::Data { register: to, .. } => to == register,
+            Phase::Stopped { .. } => true,
+            _ => !step.is_whole(),
+        };
+        if !goes_on {
+            self.empty_packet(register);
+        }
+    }
+
+    fn empty_packet(&mut self, register: u32) {
+        if let Some(span) = self.header.take() {
+            self.row(
+                span,
+                &format!("{:<9}no words", words::register_name(register)),
+            );
+        }
+    }
+
+    /// A packet of which the stream has no word, or not the one that is told.
+    fn cut_packet(&mut self, register: u32, left: u32) {
+        if let Some(span) = self.header.take() {
+            let (name, left) = (words::register_name(register), counted(left.into(), "word"));
+            self.row(span, &format!("{name:<9}cut short, {left} missing"));
         }
     }
 
@@ -220,6 +257,7 @@ impl<'a> Explainer<'a> {
             let meaning = self.meaning(step, register, left);
             self.row(span, &format!("{what} {meaning}"));
             self.stores(step);
+            self.acts(step);
         }
         if is_many && self.unfolds {
             self.unfold(step);
@@ -228,7 +266,6 @@ impl<'a> Explainer<'a> {
 
     /// What a good word did.
     fn meaning(&self, step: &Step, register: u32, left: u32) -> String {
-        let word = step.word(self.stream);
         match register {
             register::FDRI => match (step.length / WORD) as u32 == left {
                 true => "of frame data; the last frame stays in the buffer".to_string(),
@@ -238,10 +275,7 @@ impl<'a> Explainer<'a> {
             register::MFWR => "the frame in the buffer is stored".to_string(),
             register::CMD => command_words(step),
             register::FAR => self.frame_words(step),
-            register::IDCODE => match Part::by_idcode(word) {
-                Some(part) => format!("accepted: the {}'s", part.name()),
-                None => "accepted".to_string(),
-            },
+            register::IDCODE => format!("accepted: the {}'s", self.part.name()),
             register::FLR => format!(
                 "accepted: frames of {} words",
                 self.part.figures.frame_words
@@ -282,6 +316,9 @@ impl<'a> Explainer<'a> {
         if let Some(word) = step.passing_word() {
             self.detail(&format!("{word:08X} would have passed"));
         }
+        if let Some(state) = Stop::of(step, number, self.stream).state {
+            self.detail(&format!("at that point: {state}"));
+        }
         if step.length > WORD {
             self.detail(&format!(
                 "the bad word stands at offset {}",
@@ -302,6 +339,13 @@ impl<'a> Explainer<'a> {
         }
     }
 
+    /// With a range, what check would not pass is pointed out.
+    fn acts(&mut self, step: &Step) {
+        if self.range.is_some() && step.whole_part_action().is_some() {
+            self.detail("ACTS on the whole part");
+        }
+    }
+
     fn unfold(&mut self, step: &Step) {
         let bytes = &self.stream[step.offset..step.offset + step.length];
         for (index, line) in bytes.chunks(WORD * WORDS_A_LINE).enumerate() {
@@ -315,8 +359,12 @@ impl<'a> Explainer<'a> {
 
     fn end(&mut self, phase: Phase) {
         self.flush_no_operations();
-        if let Some(span) = self.header.take() {
-            self.row(span, "a packet's header, and nothing of its words");
+        match phase {
+            Phase::Header {
+                open: Some(register),
+            } => self.empty_packet(register),
+            Phase::Data { register, left } => self.cut_packet(register, left),
+            _ => {}
         }
         let length = self.stream.len();
         let words = match phase {

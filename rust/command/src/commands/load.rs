@@ -27,8 +27,7 @@ pub fn run(arguments: &Arguments) -> Result<(), Failure> {
         .transpose()?;
     let of_image = before.as_ref().map(|(part, _)| *part);
     let part = place.part.or(of_image).or_else(|| part_of(&streams));
-    let unknown = "the part is unknown: no stream has an IDCODE; name it with --part";
-    let part = part.ok_or_else(|| Failure::usage(unknown))?;
+    let part = part.ok_or_else(|| unknown(&streams))?;
     let mut device = Loaded::powered(part, before.map(|(_, image)| image.bytes));
     let (told, loaded) = device.take_all(&streams)?;
     // A stop keeps the frames already stored, so the memory is kept as well. It is out before
@@ -44,6 +43,18 @@ pub fn run(arguments: &Arguments) -> Result<(), Failure> {
 fn part_of(streams: &[Input]) -> Option<Part> {
     let of_stream = |stream: &Input| StreamPart::of(&stream.bytes).filter(|it| it.is_named);
     streams.iter().find_map(of_stream).map(|it| it.part)
+}
+
+/// Why no part was found: a file that is no stream, or streams that no part takes for its own.
+fn unknown(streams: &[Input]) -> Failure {
+    let is_hunted = |stream: &&Input| StreamPart::of(&stream.bytes).is_none();
+    Failure::Refused(match streams.iter().find(is_hunted) {
+        Some(stream) => guess::no_sync(stream),
+        None => Message {
+            words: "the part is unknown: no IDCODE was accepted; name it with --part".to_string(),
+            ..Message::default()
+        },
+    })
 }
 
 struct Loaded {
@@ -73,10 +84,10 @@ impl Loaded {
             let effects = self.take(stream);
             let refused = |message| Failure::Refused(message);
             if hunted && effects.sync.is_none() {
-                return Err(refused(no_sync(stream)));
+                return Err(refused(guess::no_sync(stream)));
             }
             if let Some(stop) = effects.stop {
-                return Ok((told, Err(refused(stopped(stream, stop, &effects.stored)))));
+                return Ok((told, Err(refused(stopped(stream, &stop, &effects.stored)))));
             }
             let (name, bytes) = (&stream.name, counted(effects.taken as u64, "byte"));
             let (part, stored) = (self.part.name(), stored_words(&effects.stored));
@@ -94,18 +105,13 @@ impl Loaded {
 
     /// Loads a stream; what it does.
     fn take(&mut self, stream: &Input) -> Effects {
-        let walk = Walk::resumed(self.part, self.record.clone(), &stream.bytes);
+        let mut walk = Walk::resumed(self.part, self.record.clone(), &stream.bytes);
         self.record.load(&mut self.memory, &stream.bytes);
-        Effects::of(walk)
+        Effects::of(&mut walk)
     }
 }
 
-fn no_sync(stream: &Input) -> Message {
-    let guess = guess::looks_like(&stream.bytes);
-    Message::of_file(&stream.name, format!("no sync word: {guess}"))
-}
-
-fn stopped(stream: &Input, stop: Stop, stored: &FrameSet) -> Message {
+fn stopped(stream: &Input, stop: &Stop, stored: &FrameSet) -> Message {
     Message {
         offset: Some(stop.offset as u64),
         number: Some(stop.number),

@@ -54,8 +54,7 @@ fn of_stream(input: Input, place: &Place) -> Result<Map, Failure> {
     let verdict = Verdict::of(&input.bytes, place);
     let refused = |words: String| Failure::Refused(Message::of_file(&input.name, words));
     if verdict.effects.sync.is_none() {
-        let guess = guess::looks_like(&input.bytes);
-        return Err(refused(format!("no sync word: {guess}")));
+        return Err(Failure::Refused(guess::no_sync(&input)));
     }
     let unknown = "the part is unknown: no IDCODE was accepted; name it with --part";
     let part = verdict.part.ok_or_else(|| refused(unknown.to_string()))?;

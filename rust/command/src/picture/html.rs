@@ -32,7 +32,7 @@ header p{margin:.5rem 0 0;color:#57606a}
 .scroll{overflow-x:auto}
 .scroll:focus-visible{outline:2px solid #0b4a8f}
 .scroll svg{display:block}
-.hint{color:#57606a;font-size:.9rem;margin:.75rem 0 0}
+.hint,.note{color:#57606a;font-size:.9rem;margin:.75rem 0 0}
 table{border-collapse:collapse;font-size:.9rem;font-variant-numeric:tabular-nums}
 th,td{text-align:left;padding:.3rem 1.25rem .3rem 0;border-bottom:1px solid #eceff2;white-space:nowrap}
 th{border-bottom:2px solid #d5dae0}
@@ -94,7 +94,7 @@ fn questions(verdict: &Verdict) -> String {
         format!("<li><span class=\"{class}\">{mark}</span>{words}</li>\n")
     };
     let items: String = verdict.questions.iter().map(item).collect();
-    let note = |words: String| format!("<p class=\"hint\">{}</p>\n", escaped(&words));
+    let note = |words: String| format!("<p class=\"note\">{}</p>\n", escaped(&words));
     let notes: String = verdict.notes().into_iter().map(note).collect();
     format!(
         "<section>\n<h2>May it be loaded?</h2>\n<ul class=\"asked\">\n{items}</ul>\n{notes}</section>\n"

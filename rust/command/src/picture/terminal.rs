@@ -48,11 +48,7 @@ fn headline(map: &Map) -> String {
     let Some(verdict) = &map.verdict else {
         return format!("{name}: memory image, {place}\n");
     };
-    let colour = match verdict.passes() {
-        true => output::GREEN,
-        false => output::RED,
-    };
-    let answer = output::painted(map.answer().unwrap_or_default(), colour);
+    let answer = verdict.painted();
     let mut text = format!("{answer} {name}: {place}\n");
     for question in verdict.questions.iter().filter(|question| !question.holds) {
         // Writing to a string does not fail.

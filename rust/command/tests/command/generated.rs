@@ -122,7 +122,8 @@ impl Coverage {
     }
 
     /// Asserts that both verdicts, the stops and the failing questions were met so many times.
-    fn assert_deep(&self, verdicts: u32, stops: u32, failing: u32) {
+    /// A layout's stream does the same again, so of those the last question asks nothing.
+    fn assert_deep(&self, verdicts: u32, stops: u32, (questions, failing): (usize, u32)) {
         println!("{self:?}");
         for verdict in ["PASS", "FAIL"] {
             let met = self.verdicts.of(&verdict);
@@ -131,7 +132,7 @@ impl Coverage {
         for stop in 0..=10 {
             assert!(self.stops.of(&stop) >= stops, "stop {stop}: {self:?}");
         }
-        for name in QUESTIONS {
+        for name in QUESTIONS.into_iter().take(questions) {
             assert!(self.failing.of(&name) >= failing, "{name}: {self:?}");
         }
     }
@@ -247,22 +248,22 @@ fn judge_many(name: &str, fixed_seed: u64, generate: Generate) -> Coverage {
 
 #[test]
 fn followed_streams() {
-    judge_many("followed", 101, followed).assert_deep(200, 10, 50);
+    judge_many("followed", 101, followed).assert_deep(80, 10, (8, 50));
 }
 
 #[test]
 fn more_followed_streams() {
-    judge_many("more-followed", 102, followed).assert_deep(200, 10, 50);
+    judge_many("more-followed", 102, followed).assert_deep(80, 10, (8, 50));
 }
 
 #[test]
 fn compiled_streams() {
-    judge_many("compiled", 103, compiled).assert_deep(2000, 0, 5);
+    judge_many("compiled", 103, compiled).assert_deep(2000, 0, (7, 5));
 }
 
 #[test]
 fn more_compiled_streams() {
-    judge_many("more-compiled", 104, compiled).assert_deep(2000, 0, 5);
+    judge_many("more-compiled", 104, compiled).assert_deep(2000, 0, (7, 5));
 }
 
 #[test]
@@ -289,7 +290,7 @@ fn streams_alone_on_standard_input() {
         let expected = batch.judged(verdict, stream, memory, &case);
         coverage.note(&expected, batch.range);
     }
-    coverage.assert_deep(50, 0, 1);
+    coverage.assert_deep(50, 0, (8, 1));
 }
 
 /// The part that accepts the stream's IDCODE, or else the first that takes most of it.

@@ -73,11 +73,10 @@ const fn allowed(
 const A_NUMBER_OF_01: &str = "a number of a refusal, to give it words";
 const A_TRUTH_VALUE: &str = "both sides are truth values";
 
-const ALLOWED: [Allowed; 25] = [
+const ALLOWED: [Allowed; 24] = [
     allowed("commands/check.rs", "&=", 2, A_TRUTH_VALUE),
     allowed("commands/explain.rs", "|=", 1, A_TRUTH_VALUE),
     allowed("commands/layout.rs", "|=", 1, A_TRUTH_VALUE),
-    allowed("effects.rs", "10_000", 1, "how far an IDCODE is looked for"),
     allowed("guess.rs", "33", 1, A_NUMBER_OF_01),
     allowed("guess.rs", "4096", 1, "how much of a file is looked at"),
     allowed("guess.rs", "0x1F", 1, "how a gzip file begins"),

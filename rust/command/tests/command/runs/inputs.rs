@@ -4,9 +4,10 @@ use crate::common::streams::{
     begun, behind_bit_header, bits_reversed, frame_write, frames, full, gzip, hex_text, layout,
     multi_frame_write, multiple, partial, starting, stopped, turned, unchecked,
 };
-use seamwillow_tests::names::register;
+use seamwillow_tests::names::{command, register};
 use seamwillow_tests::reference::PARTS;
-use seamwillow_tests::stream::Stream;
+use seamwillow_tests::stream::{Stream, NO_OP};
+use seamwillow_tests::worked::FRAME_3;
 
 type Files = Vec<(String, Vec<u8>)>;
 
@@ -14,7 +15,14 @@ type Files = Vec<(String, Vec<u8>)>;
 const AUTO_CRC: usize = 4 * (14 + 3 * 37);
 
 pub fn all() -> Files {
-    let named = [streams(), cut(), strange(), layouts(), refused_layouts()];
+    let named = [
+        streams(),
+        histories(),
+        cut(),
+        strange(),
+        layouts(),
+        refused_layouts(),
+    ];
     let named = named.into_iter().flatten();
     let mut files: Files = named.map(|(name, it)| (name.to_string(), it)).collect();
     for (device, part) in (0..).zip(&PARTS) {
@@ -61,6 +69,64 @@ fn streams() -> Named {
     ]
 }
 
+/// Streams whose part is hard to find, and streams that depend on what the part took before.
+fn histories() -> Named {
+    let mut late_idcode = Stream::synced();
+    // Pairs that are no run of equal words.
+    late_idcode.words(&[NO_OP, 0].repeat(6000));
+    late_idcode.words(&words_of(&partial(0)[8..]));
+    let mut mixed_idcode = Stream::synced();
+    mixed_idcode
+        .write(register::FLR, &[PARTS[0].frame_words() - 1])
+        .write(register::IDCODE, &[PARTS[1].idcode]);
+    let mut no_far = Stream::ready(0);
+    no_far
+        .command(command::WCFG)
+        .padded_frames(&frames(0, 1), PARTS[0].frame_words())
+        .check()
+        .command(command::DESYNC);
+    let mut no_rcrc = Stream::synced();
+    no_rcrc
+        .write(register::FLR, &[PARTS[0].frame_words() - 1])
+        .write(register::IDCODE, &[PARTS[0].idcode])
+        .check()
+        .write(register::FAR, &[0])
+        .command(command::DESYNC);
+    vec![
+        ("late-idcode.bit", late_idcode.into_bytes()),
+        ("mixed-idcode.bit", mixed_idcode.into_bytes()),
+        ("no-far.bit", no_far.into_bytes()),
+        ("no-rcrc.bit", no_rcrc.into_bytes()),
+        ("hidden.bit", hidden()),
+    ]
+}
+
+/// A part that has taken a stream has DESYNC in CMD, which acts again at this one's first FAR
+/// write: it then waits for sync and meets the stream that stands in the frame data.
+fn hidden() -> Vec<u8> {
+    let frame_words = PARTS[0].frame_words();
+    let mut data = words_of(&multiple(0));
+    data.resize(data.len().next_multiple_of(frame_words as usize), 0);
+    let mut stream = Stream::synced();
+    stream
+        .write(register::FAR, &[FRAME_3])
+        .command(command::RCRC)
+        .write(register::FLR, &[frame_words - 1])
+        .write(register::IDCODE, &[PARTS[0].idcode])
+        .command(command::WCFG)
+        .padded_frames(&data, frame_words)
+        .check()
+        .command(command::DESYNC);
+    stream.into_bytes()
+}
+
+fn words_of(bytes: &[u8]) -> Vec<u32> {
+    let words = bytes
+        .chunks_exact(4)
+        .map(|word| [word[0], word[1], word[2], word[3]]);
+    words.map(u32::from_be_bytes).collect()
+}
+
 /// Headers of no words, padding, and a command that acts again at a FAR write.
 fn odd() -> Vec<u8> {
     let mut stream = begun(0);
@@ -88,6 +154,7 @@ fn cut() -> Named {
         ("cut-data-rest.bit", good[AUTO_CRC - 150..].to_vec()),
         ("cut-before-crc.bit", up_to(AUTO_CRC)),
         ("cut-before-desync.bit", up_to(good.len() - 8)),
+        ("cut-mfwr.bit", multiple(0)[..4 * (14 + 37 + 5)].to_vec()),
     ]
 }
 
