@@ -4,7 +4,9 @@ use crate::desk::{self, Desk, Place};
 use crate::failure::Failure;
 use crate::output;
 use crate::part::Part;
+use crate::words::seen;
 use std::ffi::{OsStr, OsString};
+use std::os::unix::ffi::OsStrExt;
 
 /// What a subcommand understands beside `--help` and `--version`.
 #[derive(Clone, Copy, PartialEq, Eq, Debug)]
@@ -56,12 +58,12 @@ impl Arguments {
         let mut arguments = Self::default();
         let mut words = words.into_iter();
         while let Some(word) = words.next() {
-            match word.to_str() {
-                Some("--") => arguments.operands.extend(words.by_ref()),
-                Some("--help" | "-h") => arguments.help = true,
-                Some("--version" | "-V") => arguments.version = true,
-                Some(text) if text.starts_with('-') && text != "-" => {
-                    let (flag, value) = option(text, known, &mut words)?;
+            match word.as_bytes() {
+                b"--" => arguments.operands.extend(words.by_ref()),
+                b"--help" | b"-h" => arguments.help = true,
+                b"--version" | b"-V" => arguments.version = true,
+                [b'-', _, ..] => {
+                    let (flag, value) = option(&word, known, &mut words)?;
                     arguments.add(flag, value)?;
                 }
                 _ => arguments.operands.push(word),
@@ -165,28 +167,30 @@ impl Arguments {
     }
 }
 
-/// The flag of an option's spelling, and its value.
+/// The flag of an option's spelling, and its value, which need not be text.
 fn option(
-    text: &str,
+    word: &OsStr,
     known: &[Flag],
     words: &mut impl Iterator<Item = OsString>,
 ) -> Result<(Flag, OsString), Failure> {
-    let (name, attached) = match text.split_once('=') {
-        Some((name, value)) if name.starts_with("--") => (name, Some(value)),
-        _ => (text, None),
+    let mut halves = word.as_bytes().splitn(2, |byte| *byte == b'=');
+    let (name, attached) = match (halves.next(), halves.next()) {
+        (Some(name), value) if name.starts_with(b"--") => (name, value),
+        _ => (word.as_bytes(), None),
     };
     let of_name = |(flag, long, short, _): &&(Flag, &str, &str, bool)| {
-        known.contains(flag) && (*long == name || (*short == name && !short.is_empty()))
+        known.contains(flag) && [long.as_bytes(), short.as_bytes()].contains(&name)
     };
+    let shown = OsStr::from_bytes(name).to_string_lossy();
     let Some(&(flag, _, _, takes_value)) = OPTIONS.iter().find(of_name) else {
-        return Err(Failure::usage(format!("unknown option {text}")));
+        return Err(Failure::usage(format!("unknown option {shown}")));
     };
     let value = match (takes_value, attached) {
-        (true, Some(value)) => value.into(),
+        (true, Some(value)) => OsStr::from_bytes(value).to_os_string(),
         (true, None) => words
             .next()
-            .ok_or_else(|| Failure::usage(format!("{name} needs a value")))?,
-        (false, Some(_)) => return Err(Failure::usage(format!("{name} takes no value"))),
+            .ok_or_else(|| Failure::usage(format!("{shown} needs a value")))?,
+        (false, Some(_)) => return Err(Failure::usage(format!("{shown} takes no value"))),
         (false, None) => OsString::new(),
     };
     Ok((flag, value))
@@ -198,12 +202,15 @@ fn spelling(flag: Flag) -> &'static str {
 }
 
 pub fn unexpected(word: &OsStr) -> Failure {
-    Failure::usage(format!("unexpected argument {}", word.to_string_lossy()))
+    let word = word.to_string_lossy();
+    Failure::usage(format!("unexpected argument {}", seen(&word)))
 }
 
 /// The part of a name or a device number.
 pub fn part_named(text: &str) -> Result<Part, Failure> {
-    let unknown =
-        || format!("{text} is no part: XC3S50 to XC3S5000, or 0 to 7 (see seamwillow parts)");
+    let unknown = || {
+        let text = seen(text);
+        format!("{text} is no part: XC3S50 to XC3S5000, or 0 to 7 (see seamwillow parts)")
+    };
     Part::named(text).ok_or_else(|| Failure::Usage(unknown()))
 }

@@ -165,7 +165,8 @@ impl Desk {
         let seat = self.seats.iter().find(|seat| seat.name == name);
         let run = seat.and_then(|seat| seat.runs.first());
         let Some(&frames) = run else {
-            let words = format!("no seat {name}; it has {}", self.seat_names());
+            let (name, others) = (words::seen(name), self.seat_names());
+            let words = format!("no seat {name}; it has {others}");
             return Err(Failure::Trouble(Message::of_file(&self.file, words)));
         };
         Ok(NamedRange {
@@ -241,7 +242,10 @@ pub fn frames(text: &str) -> Result<NamedRange, String> {
 }
 
 fn run_of(text: &str) -> Result<FrameRange, String> {
-    let wrong = || format!("{text} is not FIRST:COUNT, two numbers under 4294967296");
+    let wrong = || {
+        let word = words::seen(text);
+        format!("{word} is not FIRST:COUNT, two numbers under 4294967296")
+    };
     let (first, count) = text.split_once(':').ok_or_else(wrong)?;
     let number = |text: &str| words::decimal(text).ok_or_else(wrong);
     Ok(FrameRange {

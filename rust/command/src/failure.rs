@@ -1,6 +1,6 @@
 //! Why a run ends without a yes, and its exit status.
 
-use crate::words::plain;
+use crate::words::{plain, seen};
 use std::fmt;
 use std::io::{self, Write};
 
@@ -39,27 +39,28 @@ pub struct Message {
 impl Message {
     pub fn of_file(file: &str, words: impl Into<String>) -> Self {
         Self {
-            file: Some(plain(file)),
+            file: Some(seen(file).to_string()),
             words: words.into(),
             ..Self::default()
         }
     }
 }
 
+/// File names and words can hold what a user or a desk wrote, so all of them are made plain here.
 impl fmt::Display for Message {
     fn fmt(&self, out: &mut fmt::Formatter) -> fmt::Result {
         if let Some(file) = &self.file {
-            write!(out, "{file}: ")?;
+            write!(out, "{}: ", plain(file))?;
         }
         if let Some(offset) = self.offset {
             write!(out, "offset {offset}: ")?;
         }
-        write!(out, "{}", self.words)?;
+        write!(out, "{}", plain(&self.words))?;
         if let Some(number) = self.number {
             write!(out, " ({number})")?;
         }
         match &self.context {
-            Some(context) => write!(out, "\n  {context}"),
+            Some(context) => write!(out, "\n  {}", plain(context)),
             None => Ok(()),
         }
     }
@@ -94,7 +95,7 @@ impl Failure {
     pub fn tell(&self) {
         let words = match self {
             Self::Refused(message) | Self::Trouble(message) => message.to_string(),
-            Self::Usage(words) => format!("{words}; see --help"),
+            Self::Usage(words) => format!("{}; see --help", plain(words)),
             Self::Told | Self::ToldTrouble | Self::ClosedPipe => return,
         };
         // Where standard error is closed too there is nobody left to tell.

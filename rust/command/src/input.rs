@@ -1,7 +1,7 @@
 //! Files to read, whole; `-` is standard input.
 
 use crate::failure::{Failure, Message};
-use crate::words::plain;
+use crate::words::{plain, seen};
 use std::ffi::OsStr;
 use std::fs::File;
 use std::io::{self, Read};
@@ -41,7 +41,7 @@ impl Input {
             false => File::open(path).and_then(|file| bytes_of(file, most)),
         };
         let bytes = bytes.map_err(|error| Failure::file(&file, &error))?;
-        let name = plain(&file);
+        let name = plain(seen(&file));
         Ok(Self { name, file, bytes })
     }
 }

@@ -115,7 +115,10 @@ fn run(mut words: Vec<OsString>) -> Result<(), Failure> {
 }
 
 fn named(name: &OsString) -> Result<&'static Command, Failure> {
-    let unknown = || Failure::usage(format!("unknown command {}", name.to_string_lossy()));
+    let unknown = || {
+        let name = name.to_string_lossy();
+        Failure::usage(format!("unknown command {}", words::seen(&name)))
+    };
     let found = COMMANDS.iter().find(|command| name == command.name);
     found.ok_or_else(unknown)
 }

@@ -180,6 +180,14 @@ pub fn counted(count: u64, noun: &str) -> String {
     }
 }
 
+/// A word of the user's as it is told: one without letters would not be seen.
+pub fn seen(word: &str) -> &str {
+    match word.is_empty() {
+        true => "''",
+        false => word,
+    }
+}
+
 /// Stands for a character that cannot be shown.
 const UNSHOWN: char = '\u{FFFD}';
 

@@ -5,7 +5,7 @@ use crate::compiled;
 use crate::failure::Failure;
 use crate::input::Input;
 use crate::output;
-use crate::words::counted;
+use crate::words::{counted, plain};
 
 pub fn run(arguments: &Arguments) -> Result<(), Failure> {
     let file = arguments.operand("LAYOUT")?;
@@ -27,6 +27,6 @@ pub fn run(arguments: &Arguments) -> Result<(), Failure> {
         return Ok(());
     }
     let bytes = counted(stream.len() as u64, "byte");
-    let (name, target) = (part.name(), target.to_string_lossy());
+    let (name, target) = (part.name(), plain(&target.to_string_lossy()));
     arguments.say(&format!("{target}: {bytes} for the {name}, {range}\n"))
 }

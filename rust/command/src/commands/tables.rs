@@ -85,7 +85,10 @@ fn found(part: Part, wanted: &str) -> Result<Frame, Failure> {
         };
         return part.frame_at(address).ok_or_else(|| refused(none(), None));
     }
-    let neither = || Failure::usage(format!("{wanted} is neither a frame number nor an address"));
+    let neither = || {
+        let word = words::seen(wanted);
+        Failure::usage(format!("{word} is neither a frame number nor an address"))
+    };
     let number = words::decimal(wanted).ok_or_else(neither)?;
     part.frame(number).map_err(|code| {
         let (meaning, frames) = (words::meaning(code), part.figures.frames);

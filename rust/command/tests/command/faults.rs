@@ -1,13 +1,13 @@
 //! The system's side: files that cannot be read or written, pipes that close, disks that are full,
 //! inputs that do not end, names that are no text, terminals.
 
+mod words;
+
 use crate::common::json::Value;
 use crate::common::streams::{frame_write, full, layout, multiple, partial, stopped};
 use crate::common::{Scratch, Told};
-use std::ffi::OsStr;
 use std::fs::{self, File, Permissions};
 use std::io;
-use std::os::unix::ffi::OsStrExt;
 use std::os::unix::fs::{symlink, PermissionsExt};
 use std::process::{Command, Stdio};
 
@@ -276,34 +276,6 @@ fn long_layouts_are_told() {
         }
     }
     assert!(!scratch.names().contains(&"made.bit".to_string()));
-}
-
-#[test]
-fn names_that_are_no_text() {
-    let scratch = scratch("names");
-    let strange = OsStr::from_bytes(b"\xFF\"\\\n\t.bit");
-    scratch.write(strange, &partial(0));
-    let arguments = [OsStr::new("check"), OsStr::new("--json"), strange];
-    let told = Told::of(scratch.command(arguments));
-    assert_eq!((told.status, told.err.as_str()), (0, ""));
-    let verdict = Value::of(&told.text()).list()[0].clone();
-    assert_eq!(verdict.get("file").text(), "\u{FFFD}\"\\\n\t.bit");
-    let target = OsStr::from_bytes(b"\xFE.img");
-    let arguments = [OsStr::new("load"), strange, OsStr::new("-o"), target];
-    let told = Told::of(scratch.command(arguments));
-    assert_eq!((told.status, told.err.as_str()), (0, ""));
-    assert_eq!(scratch.read(target).len(), 54_464);
-    let arguments = [OsStr::new("check"), OsStr::from_bytes(b"\xFD")];
-    Told::of(scratch.command(arguments)).assert_told(2, "\u{FFFD}: No such file");
-    for option in ["--part", "--seat", "--frames"] {
-        let arguments = [OsStr::new("check"), OsStr::new(option), strange];
-        let arguments = arguments.into_iter().chain([OsStr::new("good.bit")]);
-        Told::of(scratch.command(arguments)).assert_told(2, option);
-    }
-    for argument in [strange, OsStr::new(""), OsStr::new("-")] {
-        let told = Told::of(scratch.command([argument]));
-        assert_eq!((told.status, told.out.len()), (2, 0), "{told:?}");
-    }
 }
 
 /// A run on a terminal, with the line ends that a terminal makes taken off; none without `script`.

@@ -540,6 +540,7 @@ const TABLES: Table = &[
     ("frame-negative", "frame XC3S400 -1"),
     ("frame-too-large", "frame XC3S400 4294967296"),
     ("frame-part-unknown", "frame XC3S51 0"),
+    ("frame-empty", "frame XC3S50 ''"),
     ("frame-no-part", "frame"),
     ("frame-no-number", "frame XC3S50"),
     ("frame-more", "frame XC3S50 0 1"),
