@@ -1,9 +1,9 @@
 //! The command line: options anywhere, files in order.
 
 use crate::desk::{self, Desk, Place};
-use crate::failure::Failure;
+use crate::failure::{Failure, Message};
 use crate::output;
-use crate::part::Part;
+use crate::part::{NoPart, Part};
 use crate::words::seen;
 use std::ffi::{OsStr, OsString};
 use std::os::unix::ffi::OsStrExt;
@@ -208,9 +208,15 @@ pub fn unexpected(word: &OsStr) -> Failure {
 
 /// The part of a name or a device number.
 pub fn part_named(text: &str) -> Result<Part, Failure> {
-    let unknown = || {
-        let text = seen(text);
-        format!("{text} is no part: XC3S50 to XC3S5000, or 0 to 7 (see seamwillow parts)")
-    };
-    Part::named(text).ok_or_else(|| Failure::Usage(unknown()))
+    Part::named(text).map_err(|NoPart { words, number }| match number {
+        // A word that is no device number has none of 01's numbers.
+        None => Failure::usage(format!(
+            "{words}: XC3S50 to XC3S5000, or 0 to 7 (see seamwillow parts)"
+        )),
+        Some(_) => Failure::Trouble(Message {
+            words,
+            number,
+            ..Message::default()
+        }),
+    })
 }

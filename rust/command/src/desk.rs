@@ -2,7 +2,7 @@
 
 use crate::failure::{Failure, Message};
 use crate::input::Input;
-use crate::part::Part;
+use crate::part::{NoPart, Part};
 use crate::runs::FrameSet;
 use crate::words;
 use seamwillow_library::FrameRange;
@@ -123,19 +123,17 @@ pub struct Desk {
 impl Desk {
     pub fn read(path: &OsStr) -> Result<Self, Failure> {
         let input = Input::read(path)?;
-        let desk = match std::str::from_utf8(&input.bytes) {
-            // Some editors put a mark before the first letter.
-            Ok(text) => Self::parse(&input.name, text.trim_start_matches('\u{FEFF}')),
-            Err(_) => Err(Fault::new(0, "not a desk file: it is not text")),
-        };
-        desk.map_err(|fault| fault.failure(&input.name))
+        // Some editors put a mark before the first letter.
+        let mark = "\u{FEFF}".as_bytes();
+        let text = input.bytes.strip_prefix(mark).unwrap_or(&input.bytes);
+        Self::parse(&input.name, text).map_err(|fault| fault.failure(&input.name))
     }
 
-    fn parse(file: &str, text: &str) -> Result<Self, Fault> {
+    fn parse(file: &str, text: &[u8]) -> Result<Self, Fault> {
         let mut part = None;
         let mut seats: Vec<Seat> = Vec::new();
-        for (line, text) in (1..).zip(text.lines()) {
-            let text = text.split('#').next().unwrap_or_default();
+        for (line, text) in (1..).zip(text.split(|byte| *byte == b'\n')) {
+            let text = before_comment(text).ok_or(Fault::new(line, "not text"))?;
             let words: Vec<&str> = text.split_whitespace().collect();
             let wrong = |words: String| Fault::new(line, words);
             match words.as_slice() {
@@ -143,7 +141,7 @@ impl Desk {
                 ["part", ..] if part.is_some() => {
                     return Err(Fault::new(line, "the part is named a second time"));
                 }
-                ["part", rest @ ..] => part = Some(part_line(rest).map_err(wrong)?),
+                ["part", rest @ ..] => part = Some(part_line(line, rest)?),
                 ["seat", rest @ ..] => {
                     let seat = seat_line(line, rest).map_err(wrong)?;
                     is_new(&seat, &seats).map_err(wrong)?;
@@ -153,9 +151,7 @@ impl Desk {
             }
         }
         let part = part.ok_or(Fault::new(0, "no line names the part"))?;
-        for seat in &seats {
-            fits(part, seat)?;
-        }
+        seats.iter().try_for_each(|seat| fits(part, seat))?;
         let file = file.to_string();
         Ok(Self { file, part, seats })
     }
@@ -184,10 +180,21 @@ impl Desk {
     }
 }
 
-fn part_line(words: &[&str]) -> Result<Part, String> {
+/// A line up to its comment, which alone may be in any encoding; none where that is not text.
+fn before_comment(line: &[u8]) -> Option<&str> {
+    let text = line.split(|byte| *byte == b'#').next();
+    std::str::from_utf8(text.unwrap_or_default()).ok()
+}
+
+fn part_line(line: usize, words: &[&str]) -> Result<Part, Fault> {
+    let unknown = |NoPart { words, number }| Fault {
+        line,
+        words,
+        number,
+    };
     match words {
-        [name] => Part::named(name).ok_or_else(|| format!("{name} is no part")),
-        _ => Err("a part line is: part NAME".to_string()),
+        [name] => Part::named(name).map_err(unknown),
+        _ => Err(Fault::new(line, "a part line is: part NAME")),
     }
 }
 
@@ -224,14 +231,17 @@ fn seat_line(line: usize, words: &[&str]) -> Result<Seat, String> {
     let [name, runs @ ..] = words else {
         return Err("a seat line is: seat NAME FIRST:COUNT".to_string());
     };
-    match runs {
-        [run] => Ok(Seat {
+    // The form is judged before the number: blanks around the colon make no several runs.
+    let runs = runs.iter().map(|run| run_of(run));
+    let runs = runs.collect::<Result<Vec<FrameRange>, String>>()?;
+    match runs.len() {
+        0 => Err(format!("seat {name} has no frames: seat NAME FIRST:COUNT")),
+        1 => Ok(Seat {
             name: name.to_string(),
             line,
-            runs: vec![run_of(run)?],
+            runs,
         }),
-        [] => Err(format!("seat {name} has no frames: seat NAME FIRST:COUNT")),
-        [_, ..] => Err(format!("seat {name} has several runs; one is taken today")),
+        _ => Err(format!("seat {name} has several runs; one is taken today")),
     }
 }
 

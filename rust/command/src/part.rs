@@ -14,6 +14,23 @@ pub struct Part {
     last_major: u32,
 }
 
+/// A word that names no part, with the library's refusal where it is a device number.
+pub struct NoPart {
+    pub words: String,
+    pub number: Option<u32>,
+}
+
+impl NoPart {
+    fn new(text: &str, number: Option<u32>) -> Self {
+        let text = words::seen(text);
+        let words = match number {
+            Some(code) => format!("{text} is no part: {}", words::meaning(code)),
+            None => format!("{text} is no part"),
+        };
+        Self { words, number }
+    }
+}
+
 /// A frame of a part.
 #[derive(Clone, Copy, PartialEq, Eq, Debug)]
 pub struct Frame {
@@ -66,18 +83,22 @@ fn run_words(first: Frame, last: Frame) -> String {
 
 impl Part {
     pub fn of(device: u32) -> Option<Self> {
+        Self::asked(device).ok()
+    }
+
+    /// The part of a device number, or the library's refusal.
+    fn asked(device: u32) -> Result<Self, u32> {
         let (code, figures) = library::part(device);
+        if code != 0 {
+            return Err(code);
+        }
         let fields = |number| library::address_fields(library::frame_address(device, number).1);
-        let last_of_block_0 = || {
-            (0..figures.frames)
-                .rev()
-                .map(fields)
-                .find(|it| it.block == 0)
-        };
-        (code == 0).then(|| Self {
+        let mut falling = (0..figures.frames).rev().map(fields);
+        let last_of_block_0 = falling.find(|it| it.block == 0);
+        Ok(Self {
             device,
             figures,
-            last_major: last_of_block_0().map_or(0, |fields| fields.major),
+            last_major: last_of_block_0.map_or(0, |fields| fields.major),
         })
     }
 
@@ -86,14 +107,12 @@ impl Part {
     }
 
     /// The part of a name or a device number.
-    pub fn named(text: &str) -> Option<Self> {
-        let by_name = words::PARTS
-            .iter()
-            .position(|name| name.eq_ignore_ascii_case(text));
-        let device = by_name
-            .map(|device| device as u32)
-            .or(words::decimal(text))?;
-        Self::of(device)
+    pub fn named(text: &str) -> Result<Self, NoPart> {
+        let is_named = |name: &&str| name.eq_ignore_ascii_case(text);
+        let by_name = words::PARTS.iter().position(is_named);
+        let device = by_name.map(|device| device as u32).or(words::decimal(text));
+        let device = device.ok_or_else(|| NoPart::new(text, None))?;
+        Self::asked(device).map_err(|code| NoPart::new(text, Some(code)))
     }
 
     pub fn by_idcode(idcode: u32) -> Option<Self> {

@@ -166,10 +166,14 @@ pub fn is_of_whole_part(register: u32) -> bool {
     [CTL, MASK, COR, LOUT].contains(&register)
 }
 
+/// Whether a text is a number in decimal digits alone, of any length.
+pub fn is_decimal(text: &str) -> bool {
+    !text.is_empty() && text.bytes().all(|byte| byte.is_ascii_digit())
+}
+
 /// A number in decimal digits alone.
 pub fn decimal(text: &str) -> Option<u32> {
-    let is_decimal = text.bytes().all(|byte| byte.is_ascii_digit());
-    text.parse().ok().filter(|_| is_decimal)
+    text.parse().ok().filter(|_| is_decimal(text))
 }
 
 /// A count with its noun: 1 frame, 2 frames.

@@ -131,6 +131,10 @@ pub fn numbers(arguments: &Arguments) -> Result<(), Failure> {
         [wanted] => wanted.to_string_lossy(),
         [_, more, ..] => return Err(unexpected(more)),
     };
+    if !words::is_decimal(&wanted) {
+        let word = words::seen(&wanted);
+        return Err(Failure::usage(format!("{word} is no number")));
+    }
     match words::decimal(&wanted).and_then(words::number) {
         Some(known) => arguments.say(&line(known)),
         None => Err(Failure::Refused(Message {

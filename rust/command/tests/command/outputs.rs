@@ -57,7 +57,10 @@ fn compare_build(scratch: &Scratch, desk: Desk, layout: &[u8], case: &str) -> u3
             fs::remove_file(scratch.path("made.bit")).expect("it is ours");
         }
         // A device number above 7 names no part.
-        21 => told.assert_told(2, &format!("{device} is no part")),
+        21 => {
+            let line = format!("seamwillow: {device} is no part: unknown device number (21)\n");
+            assert_eq!((told.status, told.err), (2, line), "{case}");
+        }
         _ => {
             assert_refused(&told, desk, (code, value), case);
             assert_refused(&words, desk, (code, value), case);

@@ -53,7 +53,7 @@ fn options_that_are_no_text() {
 }
 
 /// Arguments that make no sense, or files that cannot be had, and are told again.
-const TOLD_AGAIN: [&str; 15] = [
+const TOLD_AGAIN: [&str; 16] = [
     "WORD",
     "help WORD",
     "help check WORD",
@@ -67,6 +67,7 @@ const TOLD_AGAIN: [&str; 15] = [
     "explain good.bit WORD",
     "frame WORD 1",
     "frame XC3S50 WORD",
+    "numbers WORD",
     "parts WORD",
     "load good.bit -o nowhere/WORD",
 ];
@@ -129,4 +130,23 @@ fn told_plainly(scratch: &Scratch, line: &str, word: &str, status: i32) -> Told 
     let most = if status == 1 { 2 } else { 1 };
     assert!(text.lines().count() <= most, "{line}: {told:?}");
     told
+}
+
+#[test]
+fn desks_with_bytes_that_are_no_text() {
+    let scratch = scratch("bytes");
+    let run = |desk: &[u8]| {
+        scratch.write("bytes.desk", desk);
+        scratch.run("check -q --desk bytes.desk --seat left good.bit")
+    };
+    let told = run(b"# B\xFCro\npart XC3S50 # \xFF#\nseat left 3:2\n#\xC3");
+    assert_eq!((told.status, told.err.as_str()), (0, ""));
+    for (desk, line) in [
+        (b"\xFF".as_slice(), 1),
+        (b"# B\xFCro\npart XC3S50\nseat l\xFC 3:2\n", 3),
+        (b"\xFFpart XC3S50 # the part\nseat left 3:2\n", 1),
+        (b"part XC3S50\r\nseat left 3:2\r\n\xFF", 3),
+    ] {
+        run(desk).assert_told(2, &format!("bytes.desk: line {line}: not text"));
+    }
 }

@@ -290,6 +290,10 @@ const DESKS: Table = &[
         "desk-part-unknown",
         "check --desk part-unknown.desk XC3S50.bit",
     ),
+    (
+        "desk-part-number-9",
+        "check --desk part-number-9.desk XC3S50.bit",
+    ),
     ("desk-part-bare", "check --desk part-bare.desk XC3S50.bit"),
     (
         "desk-part-two-words",
@@ -304,6 +308,10 @@ const DESKS: Table = &[
     ("desk-seat-large", "check --desk seat-large.desk XC3S50.bit"),
     ("desk-seat-twice", "check --desk seat-twice.desk XC3S50.bit"),
     ("desk-seat-runs", "check --desk seat-runs.desk XC3S50.bit"),
+    (
+        "desk-seat-blanks",
+        "check --desk seat-blanks.desk XC3S50.bit",
+    ),
     (
         "desk-seat-past",
         "check --desk seat-past.desk --seat left XC3S50.bit",
@@ -540,6 +548,7 @@ const TABLES: Table = &[
     ("frame-negative", "frame XC3S400 -1"),
     ("frame-too-large", "frame XC3S400 4294967296"),
     ("frame-part-unknown", "frame XC3S51 0"),
+    ("frame-part-number-9", "frame 9 1"),
     ("frame-empty", "frame XC3S50 ''"),
     ("frame-no-part", "frame"),
     ("frame-no-number", "frame XC3S50"),
@@ -552,6 +561,7 @@ const TABLES: Table = &[
     ("numbers-unknown", "numbers 11"),
     ("numbers-word", "numbers eight"),
     ("numbers-plus", "numbers +8"),
+    ("numbers-empty", "numbers ''"),
     ("numbers-large", "numbers 4294967296"),
     ("numbers-more", "numbers 8 9"),
     ("numbers-quiet", "numbers -q"),
