@@ -8,6 +8,7 @@ mod compiled;
 mod desk;
 mod effects;
 mod failure;
+mod files;
 mod guess;
 mod image;
 mod input;

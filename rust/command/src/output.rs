@@ -1,6 +1,7 @@
 //! What is written: text on standard output, files whole or not at all.
 
-use crate::failure::{system_words, Failure, Message};
+use crate::failure::{Failure, Message};
+use crate::files;
 use std::env;
 use std::ffi::OsStr;
 use std::fs::{self, File};
@@ -9,8 +10,9 @@ use std::path::{Path, PathBuf};
 use std::process;
 
 const STANDARD_OUTPUT: &str = "standard output";
-/// More links than this one after the other are taken for a ring.
-const MOST_LINKS: usize = 16;
+const NO_BINARY: &str = "a terminal takes no binary: name a file or use a pipe";
+/// So many names are tried for the file that is written first.
+const MOST_NAMES: u32 = 16;
 
 /// Writes to standard output and waits until it is out.
 pub fn print(text: &str) -> Result<(), Failure> {
@@ -32,58 +34,57 @@ pub fn is_coloured() -> bool {
     !forbidden && io::stdout().is_terminal()
 }
 
-/// Writes binary to a file, or for `-` to standard output, but never to a terminal.
+/// Whether a path is `-` or another name of standard output, such as /dev/stdout.
+pub fn is_standard(path: &OsStr) -> bool {
+    path == "-" || files::is_opened_as(path, io::stdout())
+}
+
+/// Writes binary to a file or a pipe, but never to a terminal.
 pub fn save_binary(path: &OsStr, bytes: &[u8]) -> Result<(), Failure> {
-    if path != "-" {
-        return save(path, bytes);
+    if !is_standard(path) {
+        return save(path, bytes, fill_with_binary);
     }
     if io::stdout().is_terminal() {
-        let words = "a terminal takes no binary: name a file or use a pipe";
-        return Err(Failure::Trouble(Message::of_file(STANDARD_OUTPUT, words)));
+        let message = Message::of_file(STANDARD_OUTPUT, NO_BINARY);
+        return Err(Failure::Trouble(message));
     }
     print_bytes(bytes)
 }
 
-/// Writes text to a file, or for `-` to standard output.
+/// Writes text to a file, or to standard output by any of its names.
 pub fn save_text(path: &OsStr, text: &str) -> Result<(), Failure> {
-    match path == "-" {
+    match is_standard(path) {
         true => print(text),
-        false => save(path, text.as_bytes()),
+        false => save(path, text.as_bytes(), fill),
     }
 }
 
 /// Writes a file whole or not at all: a file beside it first, which then takes its name.
-fn save(path: &OsStr, bytes: &[u8]) -> Result<(), Failure> {
+fn save(
+    path: &OsStr,
+    bytes: &[u8],
+    fill_device: fn(File, &[u8]) -> io::Result<()>,
+) -> Result<(), Failure> {
     let open = || File::options().write(true).open(path);
     let saved = match fs::metadata(path) {
         // A device or a pipe has no place for a second file beside it.
-        Ok(it) if !it.is_file() => open().and_then(|file| fill(file, bytes)),
+        Ok(it) if !it.is_file() => open().and_then(|file| fill_device(file, bytes)),
         // A file that may not be written is not replaced; a link keeps pointing to where it points.
         Ok(it) => open()
             .and_then(|_| fs::canonicalize(path))
             .and_then(|target| replace(&target, bytes, Some(it.permissions()))),
-        Err(_) => replace(&followed(path), bytes, None),
+        Err(error) if error.kind() == ErrorKind::NotFound => {
+            files::followed(path).and_then(|target| replace(&target, bytes, None))
+        }
+        // Links in a ring, for one, lead to no place for a file.
+        Err(error) => Err(error),
     };
     let name = path.to_string_lossy();
-    saved.map_err(|error| Failure::Trouble(Message::of_file(&name, system_words(&error))))
-}
-
-/// The file that a link to nothing leads to; a path that is no link is that file itself.
-fn followed(path: &OsStr) -> PathBuf {
-    let mut target = PathBuf::from(path);
-    // Links in a ring lead nowhere.
-    for _ in 0..MOST_LINKS {
-        match fs::read_link(&target) {
-            Ok(next) => target = target.with_file_name(next),
-            Err(_) => break,
-        }
-    }
-    target
+    saved.map_err(|error| Failure::file(&name, &error))
 }
 
 fn replace(target: &Path, bytes: &[u8], permissions: Option<fs::Permissions>) -> io::Result<()> {
-    let beside = target.with_file_name(format!(".seamwillow-{}.part", process::id()));
-    let file = File::options().write(true).create_new(true).open(&beside)?;
+    let (beside, file) = file_beside(target)?;
     let written = fill(file, bytes)
         .and_then(|()| permissions.map_or(Ok(()), |it| fs::set_permissions(&beside, it)))
         .and_then(|()| fs::rename(&beside, target));
@@ -92,6 +93,37 @@ fn replace(target: &Path, bytes: &[u8], permissions: Option<fs::Permissions>) ->
         let _ = fs::remove_file(&beside);
     }
     written
+}
+
+/// A new file in the target's folder. A run that was killed may have left one under a name that
+/// this run would give, so further names are tried.
+fn file_beside(target: &Path) -> io::Result<(PathBuf, File)> {
+    let begun = |number: u32| {
+        let name = format!(".seamwillow-{}-{number}.part", process::id());
+        let path = target.with_file_name(name);
+        let file = File::options().write(true).create_new(true).open(&path)?;
+        Ok((path, file))
+    };
+    let is_taken = |it: &io::Result<_>| {
+        let error = it.as_ref().err();
+        error.is_some_and(|error| error.kind() == ErrorKind::AlreadyExists)
+    };
+    let mut beside = begun(0);
+    for number in 1..MOST_NAMES {
+        if !is_taken(&beside) {
+            break;
+        }
+        beside = begun(number);
+    }
+    beside
+}
+
+/// Fills what is no terminal.
+fn fill_with_binary(file: File, bytes: &[u8]) -> io::Result<()> {
+    match file.is_terminal() {
+        true => Err(io::Error::other(NO_BINARY)),
+        false => fill(file, bytes),
+    }
 }
 
 fn fill(mut file: File, bytes: &[u8]) -> io::Result<()> {

@@ -23,7 +23,7 @@ pub fn run(arguments: &Arguments) -> Result<(), Failure> {
     let layout = Input::read_all(file)?;
     let stream = compiled::stream(part, range.frames, &layout)?;
     output::save_binary(target, &stream)?;
-    if target == "-" {
+    if output::is_standard(target) {
         return Ok(());
     }
     let bytes = counted(stream.len() as u64, "byte");

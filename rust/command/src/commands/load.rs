@@ -33,7 +33,7 @@ pub fn run(arguments: &Arguments) -> Result<(), Failure> {
     // A stop keeps the frames already stored, so the memory is kept as well. It is out before
     // anything is told, so that a failing standard output leaves no half of it.
     output::save_binary(target, &device.memory)?;
-    if target != "-" {
+    if !output::is_standard(target) {
         arguments.say(&told)?;
     }
     loaded

@@ -12,7 +12,7 @@ use crate::verdict::Verdict;
 
 pub fn run(arguments: &Arguments) -> Result<(), Failure> {
     let targets = [Flag::Svg, Flag::Html].map(|flag| arguments.value(flag));
-    let is_standard = |target: &Option<_>| target.is_some_and(|path| path == "-");
+    let is_standard = |target: &Option<_>| target.is_some_and(output::is_standard);
     if targets.iter().all(is_standard) {
         let words = "--svg and --html cannot both go to standard output";
         return Err(Failure::usage(words));

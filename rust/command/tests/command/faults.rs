@@ -1,14 +1,15 @@
 //! The system's side: files that cannot be read or written, pipes that close, disks that are full,
 //! inputs that do not end, names that are no text, terminals.
 
+mod targets;
 mod words;
 
 use crate::common::json::Value;
-use crate::common::streams::{frame_write, full, layout, multiple, partial, stopped};
+use crate::common::streams::{frame_write, full, layout, partial, stopped};
 use crate::common::{Scratch, Told};
 use std::fs::{self, File, Permissions};
 use std::io;
-use std::os::unix::fs::{symlink, PermissionsExt};
+use std::os::unix::fs::PermissionsExt;
 use std::process::{Command, Stdio};
 
 /// A folder with a good stream, a good layout and one that is refused.
@@ -106,111 +107,6 @@ fn a_full_disk_is_told() {
     told.assert_told(2, "/dev/full: No space left on device");
 }
 
-/// A file that may not grow is a disk that fills up within a write.
-#[test]
-fn what_cannot_be_written_whole_is_not_written() {
-    let scratch = scratch("limit");
-    scratch.write("old.bit", b"old");
-    let before = scratch.names();
-    for target in ["old.bit", "new.bit"] {
-        let line =
-            format!("trap '' XFSZ; ulimit -f 1; exec \"$0\" {BUILD} good.layout -o {target}");
-        let told = Told::of(scratch.shell(&line));
-        told.assert_told(2, &format!("{target}: File too large"));
-        assert_eq!(scratch.names(), before, "{target}");
-        assert_eq!(scratch.read("old.bit"), b"old");
-    }
-}
-
-#[test]
-fn a_refused_build_leaves_the_target_as_it_is() {
-    let scratch = scratch("refused");
-    scratch.write("old.bit", b"old");
-    let before = scratch.names();
-    for target in ["old.bit", "new.bit"] {
-        let told = scratch.run(&format!("{BUILD} bad.layout -o {target}"));
-        assert_eq!(told.status, 1, "{told:?}");
-        let told = scratch.run(&format!("{BUILD} missing.layout -o {target}"));
-        assert_eq!(told.status, 2, "{told:?}");
-        assert_eq!(scratch.names(), before, "{target}");
-        assert_eq!(scratch.read("old.bit"), b"old");
-    }
-}
-
-#[test]
-fn a_target_is_replaced_whole() {
-    let scratch = scratch("target");
-    let run = |target: &str| {
-        let told = scratch.run(&format!("{BUILD} good.layout -o {target}"));
-        assert_eq!((told.status, told.err.as_str()), (0, ""), "{target}");
-        assert_eq!(scratch.read(target), partial(0), "{target}");
-    };
-    scratch.write("old.bit", &[9; 5000]);
-    let path = scratch.path("old.bit");
-    fs::set_permissions(&path, Permissions::from_mode(0o640)).expect("it is ours");
-    run("old.bit");
-    let mode = fs::metadata(&path)
-        .expect("it is there")
-        .permissions()
-        .mode();
-    assert_eq!(mode & 0o777, 0o640);
-    symlink("old.bit", scratch.path("link.bit")).expect("a link can be made");
-    scratch.write("old.bit", b"old");
-    run("link.bit");
-    assert!(scratch.path("link.bit").is_symlink(), "the link is kept");
-    assert_eq!(scratch.read("old.bit"), partial(0));
-    let names = scratch.names();
-    assert!(!names.iter().any(|name| name.contains("part")), "{names:?}");
-    // A target may be its own source.
-    scratch.write("same", &scratch.read("good.layout"));
-    let told = scratch.run(&format!("{BUILD} same -o same"));
-    assert_eq!((told.status, scratch.read("same")), (0, partial(0)));
-}
-
-#[test]
-fn a_link_to_nothing_is_kept() {
-    let scratch = scratch("dangling");
-    let told = scratch.run(&format!("{BUILD} good.layout -o nowhere/made.bit"));
-    told.assert_told(2, "nowhere/made.bit: No such file or directory");
-    symlink("made.bit", scratch.path("link.bit")).expect("a link can be made");
-    let told = scratch.run(&format!("{BUILD} good.layout -o link.bit"));
-    assert_eq!((told.status, told.err.as_str()), (0, ""));
-    assert!(scratch.path("link.bit").is_symlink(), "the link is kept");
-    assert_eq!(scratch.read("made.bit"), partial(0));
-}
-
-/// Pipes and devices by their names are written as they are.
-#[test]
-fn a_target_that_is_no_file() {
-    let scratch = scratch("devices");
-    for target in ["/dev/stdout", "/dev/fd/1", "/proc/self/fd/1"] {
-        let line = format!("\"$0\" {BUILD} -q good.layout -o {target} | cat");
-        let told = Told::of(scratch.shell(&line));
-        assert_eq!((told.status, told.err.as_str()), (0, ""), "{target}");
-        assert_eq!(told.out, partial(0), "{target}");
-    }
-    let told = scratch.run(&format!("{BUILD} good.layout -o /dev/null"));
-    assert_eq!((told.status, told.err.as_str()), (0, ""));
-    let told = scratch.run(&format!("{BUILD} good.layout -o ."));
-    told.assert_told(2, ".: Is a directory");
-}
-
-/// A load whose words cannot be told still writes all of the memory or nothing.
-#[test]
-fn a_load_that_cannot_be_told_keeps_no_half() {
-    let scratch = scratch("half");
-    scratch.write("first.bit", &multiple(0));
-    let told = scratch.run("load first.bit good.bit -o whole.img");
-    assert_eq!(told.status, 0);
-    let mut command = scratch.command("load first.bit good.bit -o made.img".split(' '));
-    let full = File::options().write(true).open("/dev/full");
-    command.stdout(full.expect("/dev/full can be opened"));
-    Told::of(command).assert_told(2, "standard output: No space left on device");
-    if scratch.names().contains(&"made.img".to_string()) {
-        assert!(scratch.read("made.img") == scratch.read("whole.img"));
-    }
-}
-
 #[test]
 fn closed_standard_files() {
     let scratch = scratch("closed");
@@ -295,14 +191,35 @@ fn on_terminal(scratch: &Scratch, line: &str, colour: &[(&str, &str)]) -> Option
     Some((output.status.code().unwrap_or_default(), text))
 }
 
+/// Names by which a terminal is reached, and how it is told of.
+const TERMINALS: [(&str, &str); 7] = [
+    ("-", "standard output"),
+    ("/dev/stdout", "standard output"),
+    ("/proc/self/fd/1", "standard output"),
+    ("/dev/stderr", "standard output"),
+    ("/dev/tty", "/dev/tty"),
+    ("/dev/tty | cat", "/dev/tty"),
+    ("/dev/stderr | cat", "/dev/stderr"),
+];
+
 #[test]
 fn no_binary_to_a_terminal() {
     let scratch = scratch("binary");
-    for line in [&format!("{BUILD} good.layout -o -"), "load good.bit -o -"] {
-        if let Some((status, text)) = on_terminal(&scratch, line, &[]) {
-            let words = "seamwillow: standard output: a terminal takes no binary";
-            assert!(status == 2 && text.starts_with(words), "{status}: {text}");
-        }
+    let words = "a terminal takes no binary: name a file or use a pipe";
+    for (target, name) in TERMINALS {
+        let refused = |line: String| {
+            if let Some((status, text)) = on_terminal(&scratch, &line, &[]) {
+                assert_eq!(text, format!("seamwillow: {name}: {words}\n"), "{line}");
+                // A pipe has the status of its last command.
+                assert!(status == 2 || line.ends_with("cat"), "{line}: {status}");
+            }
+        };
+        refused(format!("{BUILD} good.layout -o {target}"));
+        refused(format!("load good.bit -o {target}"));
+    }
+    // A picture is text, which a terminal takes.
+    if let Some((status, text)) = on_terminal(&scratch, "map good.bit --svg /dev/tty", &[]) {
+        assert!(status == 0 && text.contains("</svg>"), "{status}: {text}");
     }
 }
 
