@@ -9,6 +9,8 @@ use std::io::{self, Read};
 /// No stream is read beyond this: the longest configuration of a part has 1.7 million bytes.
 pub const MOST_BYTES: u64 = 16 * 1024 * 1024;
 
+pub const STANDARD_INPUT: &str = "standard input";
+
 /// A file's bytes, and its name.
 pub struct Input {
     /// The name as it is shown.
@@ -49,7 +51,7 @@ impl Input {
 /// A file's name as it is, for programs.
 pub fn file_name(path: &OsStr) -> String {
     match path == "-" {
-        true => "standard input".to_string(),
+        true => STANDARD_INPUT.to_string(),
         false => path.to_string_lossy().into_owned(),
     }
 }

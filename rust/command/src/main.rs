@@ -112,6 +112,10 @@ fn run(mut words: Vec<OsString>) -> Result<(), Failure> {
     if arguments.version {
         return output::print(usage::VERSION);
     }
+    // A command that is told a part takes files.
+    if command.help.place >= Place::Part {
+        files::judge(&arguments)?;
+    }
     (command.run)(&arguments)
 }
 

@@ -9,7 +9,7 @@ use std::io::{self, ErrorKind, IsTerminal, Write};
 use std::path::{Path, PathBuf};
 use std::process;
 
-const STANDARD_OUTPUT: &str = "standard output";
+pub const STANDARD_OUTPUT: &str = "standard output";
 const NO_BINARY: &str = "a terminal takes no binary: name a file or use a pipe";
 /// So many names are tried for the file that is written first.
 const MOST_NAMES: u32 = 16;

@@ -1,8 +1,9 @@
-//! Where an output goes: a file whole or not at all, through links, to devices and pipes.
+//! Where an output goes: a file whole or not at all, through links, to devices and pipes, and never
+//! over an input; and standard input, which is read once.
 
 use super::{scratch, BUILD};
 use crate::common::streams::{multiple, partial};
-use crate::common::Told;
+use crate::common::{Scratch, Told};
 use std::fs::{self, File, Permissions};
 use std::os::unix::fs::{symlink, PermissionsExt};
 
@@ -61,10 +62,6 @@ fn a_target_is_replaced_whole() {
     assert_eq!(scratch.read("old.bit"), partial(0));
     let names = scratch.names();
     assert!(!names.iter().any(|name| name.contains("part")), "{names:?}");
-    // A target may be its own source.
-    scratch.write("same", &scratch.read("good.layout"));
-    let told = scratch.run(&format!("{BUILD} same -o same"));
-    assert_eq!((told.status, scratch.read("same")), (0, partial(0)));
 }
 
 /// A run that was killed can leave its file, and a later run can have the same number.
@@ -123,6 +120,125 @@ fn links_that_lead_nowhere_are_kept() {
         assert!(scratch.path(target).is_symlink(), "{target}");
         assert_eq!(scratch.names(), before, "{target}");
     }
+}
+
+/// Runs that would write over what they read; the file that is named twice comes last.
+const OVER_INPUTS: [&str; 17] = [
+    "build --part 0 --frames 0:368 good.layout -o good.layout",
+    "build --part 0 --frames 0:368 good.layout -o ./good.layout",
+    "build --part 0 --frames 0:368 good.layout -o hard",
+    "build --part 0 --frames 0:368 good.layout -o soft",
+    "build --part 0 --frames 0:368 soft -o good.layout",
+    "build --desk good.desk --seat left good.layout -o good.desk",
+    "build --desk - --seat left good.layout -o good.desk",
+    "load good.bit -o good.bit",
+    "load full.bit good.bit -o good.bit",
+    "load --desk good.desk good.bit -o good.desk",
+    "load --image good.bit good.bit -o good.bit",
+    "map good.bit --svg good.bit",
+    "map good.bit --html good.bit",
+    "map --desk good.desk --seat left good.bit --svg good.desk",
+    "map --image zeros.img --svg zeros.img",
+    "map --image zeros.img --html zeros.img",
+    "map --image - --html good.desk",
+];
+
+/// A folder with a desk, a memory and links to the layout too.
+fn with_links(name: &str) -> Scratch {
+    let scratch = scratch(name);
+    scratch.write("good.desk", b"part XC3S50\nseat left 3:2\n");
+    scratch.write("zeros.img", &vec![0; 54_464]);
+    fs::hard_link(scratch.path("good.layout"), scratch.path("hard")).expect("one disk");
+    symlink("good.layout", scratch.path("soft")).expect("a link can be made");
+    scratch
+}
+
+/// Every file with its bytes.
+fn files(scratch: &Scratch) -> Vec<(String, Vec<u8>)> {
+    let read = |name: String| (name.clone(), scratch.read(&name));
+    scratch.names().into_iter().map(read).collect()
+}
+
+#[test]
+fn an_output_is_no_input() {
+    let scratch = with_links("over");
+    let before = files(&scratch);
+    for line in OVER_INPUTS {
+        let told = Told::of(scratch.shell(&format!("exec \"$0\" {line} <good.desk")));
+        let output = line.split(' ').next_back().unwrap_or_default();
+        told.assert_told(2, &format!("the output {output} is also the input "));
+        assert!(told.out.is_empty() && files(&scratch) == before, "{line}");
+    }
+    let line = format!("exec \"$0\" {BUILD} good.layout -o - >>good.layout");
+    let words = "the output standard output is also the input good.layout; see";
+    Told::of(scratch.shell(&line)).assert_told(2, words);
+    assert!(files(&scratch) == before);
+}
+
+#[test]
+fn two_outputs_are_two_files() {
+    let scratch = with_links("two");
+    let before = files(&scratch);
+    for targets in [
+        "--svg made --html made",
+        "--svg made --html ./made",
+        "--svg hard --html soft",
+    ] {
+        let told = scratch.run(&format!("map good.bit {targets}"));
+        told.assert_told(2, "--svg and --html cannot both go to ");
+        assert!(
+            told.out.is_empty() && files(&scratch) == before,
+            "{targets}"
+        );
+    }
+    let told = scratch.run("map good.bit --svg - --html /dev/stdout");
+    told.assert_told(2, "--svg and --html cannot both go to standard output");
+    let told = scratch.run("map good.bit --svg one --html two");
+    assert_eq!((told.status, told.err.as_str()), (0, ""));
+}
+
+/// What is read whole, and what is no file, can be the output as well.
+#[test]
+fn an_output_that_may_be_an_input() {
+    let scratch = scratch("carried");
+    scratch.write("memory.img", &vec![0xFF; 54_464]);
+    let told = scratch.run("load --image memory.img good.bit -o after.img");
+    assert_eq!(told.status, 0, "{told:?}");
+    let told = scratch.run("load --image memory.img good.bit -o memory.img");
+    assert_eq!((told.status, told.err.as_str()), (0, ""));
+    assert!(scratch.read("memory.img") == scratch.read("after.img"));
+    let told = scratch.run("map good.bit --svg /dev/null --html /dev/null");
+    assert_eq!((told.status, told.err.as_str()), (0, ""));
+    let told = scratch.run("load /dev/null --part 0 -o /dev/null");
+    told.assert_told(1, "/dev/null: no sync word");
+}
+
+#[test]
+fn standard_input_is_read_once() {
+    let scratch = scratch("once");
+    scratch.write("good.desk", b"part XC3S50\nseat left 3:2\n");
+    let words = "standard input can be read once";
+    for line in [
+        "check - -",
+        "check - good.bit -",
+        "check --desk - --seat left -",
+        "explain --desk - -",
+        "load --image - - -o made.img",
+        "load - - -o made.img",
+        "map --desk - --image -",
+        "build --desk - --seat left - -o made.bit",
+        "layout --desk - -",
+    ] {
+        let told = Told::of(scratch.shell(&format!("exec \"$0\" {line} <good.bit")));
+        told.assert_told(2, words);
+        assert!(told.out.is_empty(), "{line}");
+    }
+    let told = Told::of(scratch.shell("cat good.bit | \"$0\" check - /dev/stdin"));
+    told.assert_told(2, words);
+    // A file has its own name beside that of standard input.
+    let told = Told::of(scratch.shell("exec \"$0\" check - good.bit <good.bit"));
+    assert_eq!((told.status, told.err.as_str()), (0, ""));
+    assert!(!scratch.names().iter().any(|name| name.starts_with("made")));
 }
 
 /// Every name of standard output is `-`: nothing else is told there.

@@ -53,7 +53,7 @@ fn options_that_are_no_text() {
 }
 
 /// Arguments that make no sense, or files that cannot be had, and are told again.
-const TOLD_AGAIN: [&str; 16] = [
+const TOLD_AGAIN: [&str; 17] = [
     "WORD",
     "help WORD",
     "help check WORD",
@@ -69,6 +69,7 @@ const TOLD_AGAIN: [&str; 16] = [
     "frame XC3S50 WORD",
     "numbers WORD",
     "parts WORD",
+    "map good.bit --svg WORD --html WORD",
     "load good.bit -o nowhere/WORD",
 ];
 
