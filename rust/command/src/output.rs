@@ -85,7 +85,7 @@ fn save(
 
 fn replace(target: &Path, bytes: &[u8], permissions: Option<fs::Permissions>) -> io::Result<()> {
     let (beside, file) = file_beside(target)?;
-    let written = fill(file, bytes)
+    let written = fill_to_disk(file, bytes)
         .and_then(|()| permissions.map_or(Ok(()), |it| fs::set_permissions(&beside, it)))
         .and_then(|()| fs::rename(&beside, target));
     if written.is_err() {
@@ -124,6 +124,12 @@ fn fill_with_binary(file: File, bytes: &[u8]) -> io::Result<()> {
         true => Err(io::Error::other(NO_BINARY)),
         false => fill(file, bytes),
     }
+}
+
+/// A disk may tell only at last that it is full, and the name must not be given before.
+fn fill_to_disk(mut file: File, bytes: &[u8]) -> io::Result<()> {
+    file.write_all(bytes)?;
+    file.sync_all()
 }
 
 fn fill(mut file: File, bytes: &[u8]) -> io::Result<()> {

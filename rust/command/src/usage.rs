@@ -73,6 +73,7 @@ One verdict a file, PASS or FAIL, on what a part just powered on would do with t
 word is met, the part is the desk's, nothing stops, the stream is whole, and a CRC check passes
 after the last stored frame. With a range, every stored frame is in it and nothing acts on the
 whole part (commands other than NULL, RCRC, WCFG, MFWR, RCFG, DESYNC; words to CTL, MASK, COR, LOUT).
+What passes so far is loaded a second time and has to do the same.
 Without --part and --desk the part is the one whose IDCODE the stream has. A desk needs a seat or
 frames; without any, every frame is taken, and the verdict says so.
 ",

@@ -199,7 +199,10 @@ const UNSHOWN: char = '\u{FFFD}';
 pub fn plain(text: &str) -> String {
     let is_unfit = |letter: char| {
         letter.is_control()
-            || matches!(letter, '\u{200E}' | '\u{200F}' | '\u{202A}'..='\u{202E}')
+            || matches!(
+                letter,
+                '\u{061C}' | '\u{200E}' | '\u{200F}' | '\u{202A}'..='\u{202E}'
+            )
             || matches!(letter, '\u{2066}'..='\u{2069}' | '\u{FFFE}' | '\u{FFFF}')
     };
     text.replace(is_unfit, &UNSHOWN.to_string())

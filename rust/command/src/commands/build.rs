@@ -3,7 +3,7 @@
 use crate::arguments::{Arguments, Flag};
 use crate::compiled;
 use crate::failure::Failure;
-use crate::input::Input;
+use crate::input::{Input, MOST_BYTES};
 use crate::output;
 use crate::words::{counted, plain};
 
@@ -26,7 +26,14 @@ pub fn run(arguments: &Arguments) -> Result<(), Failure> {
     if output::is_standard(target) {
         return Ok(());
     }
-    let bytes = counted(stream.len() as u64, "byte");
+    let length = stream.len() as u64;
     let (name, target) = (part.name(), plain(&target.to_string_lossy()));
-    arguments.say(&format!("{target}: {bytes} for the {name}, {range}\n"))
+    let more = match length > MOST_BYTES {
+        true => format!("; longer than the {MOST_BYTES} bytes that the other commands read"),
+        false => String::new(),
+    };
+    let bytes = counted(length, "byte");
+    arguments.say(&format!(
+        "{target}: {bytes} for the {name}, {range}{more}\n"
+    ))
 }

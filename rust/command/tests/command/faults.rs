@@ -5,7 +5,7 @@ mod targets;
 mod words;
 
 use crate::common::json::Value;
-use crate::common::streams::{frame_write, full, layout, partial, stopped};
+use crate::common::streams::{frame_write, full, layout, multi_frame_write, partial, stopped};
 use crate::common::{Scratch, Told};
 use std::fs::{self, File, Permissions};
 use std::io;
@@ -115,14 +115,16 @@ fn closed_standard_files() {
     assert!(told.text().starts_with("FAIL standard input"), "{told:?}");
     let told = Told::of(scratch.shell("exec \"$0\" layout - <&-"));
     told_of_layout(&told);
-    for line in [
-        "check good.bit >&-",
-        "check missing 2>&-",
-        "check missing >&- 2>&-",
+    for (line, status) in [
+        ("check good.bit >&-", 0),
+        ("check good.layout >&-", 1),
+        ("check missing 2>&-", 2),
+        ("check missing >&- 2>&-", 2),
     ] {
-        // A status of a run that ends by itself, which is all that is left to tell.
+        // The status of the answer, which is all that is left to tell.
         let told = Told::of(scratch.shell(&format!("exec \"$0\" {line}")));
-        assert_eq!((told.out.len(), told.err.as_str()), (0, ""), "{line}");
+        let answer = (told.status, told.out.len(), told.err.as_str());
+        assert_eq!(answer, (status, 0, ""), "{line}");
     }
 }
 
@@ -172,6 +174,29 @@ fn long_layouts_are_told() {
         }
     }
     assert!(!scratch.names().contains(&"made.bit".to_string()));
+}
+
+/// A stream can be longer than what the other commands read, which is said.
+#[test]
+fn a_long_stream_is_built() {
+    let scratch = scratch("long-stream");
+    let targets: Vec<u32> = (0..368).collect();
+    scratch.write(
+        "long.layout",
+        &layout(0, &vec![multi_frame_write(0, &targets); 2500]),
+    );
+    let told = scratch.run("build --part 0 --frames 0:368 long.layout -o long.bit");
+    let length = 4 * (12 + 2500 * (7 + 37 + 5 * 368));
+    let more = "; longer than the 16777216 bytes that the other commands read";
+    let words = format!("long.bit: {length} bytes for the XC3S50, frames 0 to 367{more}\n");
+    assert_eq!(
+        (told.status, told.text(), told.err.as_str()),
+        (0, words, "")
+    );
+    assert_eq!(scratch.read("long.bit").len(), length);
+    let told = scratch.run("check long.bit");
+    let words = "seamwillow: long.bit: longer than 16777216 bytes, and no more are read\n";
+    assert_eq!((told.status, told.err.as_str()), (2, words));
 }
 
 /// A run on a terminal, with the line ends that a terminal makes taken off; none without `script`.
