@@ -127,7 +127,7 @@ pub const NUMBERS: [Number; 22] = [
     refusal(24, "the device does not wait for sync"),
     refusal(31, "layout malformed"),
     refusal(32, "layout edition is not 1"),
-    refusal(33, "the layout is for another part"),
+    refusal(33, "the layout's device number is not the part's"),
     refusal(34, "frame outside the part"),
     refusal(35, "frame outside the range that the desk names"),
     refusal(36, "output shorter than the stream"),
