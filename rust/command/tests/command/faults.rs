@@ -147,6 +147,7 @@ fn long_inputs_are_told() {
         "check",
         "check --part 0 --frames 0:1",
         "explain",
+        "map",
         "load --part 0 -o made.img",
     ] {
         for input in ["long.bit", "- <long.bit", "- </dev/zero"] {
