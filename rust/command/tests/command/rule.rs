@@ -1,52 +1,24 @@
 //! The command decodes nothing that the library decodes: its sources have no means to, and the
 //! figures that it prints are the library's.
 //!
-//! Sources are read as tokens. `cargo fmt` puts spaces around operators of two operands and none
-//! inside generics, references and closures, which is how the two are told apart.
+//! Sources are read as tokens, of which some need a reason. That guards against slips and habits,
+//! not against intent: whoever means to can add and compare until a field is cut out. Against
+//! intent stand the tests of the figures, further down, and whoever reads a change.
 
+mod forbidden;
+mod planted;
 mod tokens;
 
 use crate::common::json::Value;
 use crate::common::streams::{partial, stopped};
 use crate::common::{Scratch, Told};
+use forbidden::{Found, A_LETTER, BYTES};
 use seamwillow_library::{self as library, Record};
 use seamwillow_tests::names::register;
 use seamwillow_tests::random::{self, Random};
 use seamwillow_tests::reference::{Part, PARTS};
 use std::fs;
 use std::path::{Path, PathBuf};
-use tokens::{Kind, Token};
-
-/// Larger numbers need a reason: 01's figures are larger, but for small counts and bit places.
-const MOST: u64 = 16;
-
-/// Words by which fields could be cut out of words, or the library's C functions be passed by.
-const FORBIDDEN_WORDS: [&str; 22] = [
-    "unsafe",
-    "extern",
-    "seamwillow_tests",
-    "reverse_bits",
-    "swap_bytes",
-    "rotate_left",
-    "rotate_right",
-    "count_ones",
-    "leading_zeros",
-    "trailing_zeros",
-    "from_be_bytes",
-    "from_le_bytes",
-    "from_ne_bytes",
-    "to_be_bytes",
-    "to_le_bytes",
-    "to_ne_bytes",
-    "rem_euclid",
-    "div_euclid",
-    "pow",
-    "ilog2",
-    "checked_shl",
-    "checked_shr",
-];
-
-const FORBIDDEN_SIGNS: [&str; 8] = ["<<=", ">>=", "^", "^=", "%", "%=", "&=", "|="];
 
 /// A token that stands in a file so many times, and why it may.
 struct Allowed {
@@ -72,26 +44,80 @@ const fn allowed(
 
 const A_NUMBER_OF_01: &str = "a number of a refusal, to give it words";
 const A_TRUTH_VALUE: &str = "both sides are truth values";
+const A_PATTERN: &str = "a pattern that is not an arm's own";
+const OF_WORDS: &str = "bytes are counted in words and frames";
+const OF_SHOWN_TEXT: &str = "a letter of what is read or shown";
+const OF_LENGTHS: &str = "lengths of the drawing";
 
-const ALLOWED: [Allowed; 24] = [
+const ALLOWED: [Allowed; 54] = [
+    allowed("arguments.rs", A_LETTER, 2, OF_SHOWN_TEXT),
+    allowed("arguments.rs", BYTES, 6, OF_SHOWN_TEXT),
     allowed("commands/check.rs", "&=", 2, A_TRUTH_VALUE),
+    allowed("commands/explain.rs", "*", 3, OF_WORDS),
+    allowed("commands/explain.rs", "/", 5, OF_WORDS),
+    allowed("commands/explain.rs", "|", 1, A_PATTERN),
     allowed("commands/explain.rs", "|=", 1, A_TRUTH_VALUE),
     allowed("commands/layout.rs", "|=", 1, A_TRUTH_VALUE),
+    allowed(
+        "commands/tables.rs",
+        "from_str_radix",
+        1,
+        "the user's address",
+    ),
+    allowed("desk.rs", A_LETTER, 3, OF_SHOWN_TEXT),
     allowed("guess.rs", "33", 1, A_NUMBER_OF_01),
     allowed("guess.rs", "4096", 1, "how much of a file is looked at"),
     allowed("guess.rs", "0x1F", 1, "how a gzip file begins"),
     allowed("guess.rs", "0x8B", 1, "how a gzip file begins"),
+    allowed("guess.rs", BYTES, 2, "how zip and xz files begin"),
     allowed("guess.rs", "reverse_bits", 3, "a file is turned round"),
     allowed("image.rs", "23", 1, A_NUMBER_OF_01),
     allowed("input.rs", "1024", 2, "the most that is read"),
+    allowed("input.rs", "*", 2, "the most that is read"),
+    allowed("json.rs", A_LETTER, 5, OF_SHOWN_TEXT),
     allowed("part.rs", "37", 1, A_NUMBER_OF_01),
-    allowed("picture/panel.rs", "%", 2, "every tenth major is set apart"),
+    allowed("picture/block.rs", "div_ceil", 1, OF_LENGTHS),
+    allowed("picture/markup.rs", A_LETTER, 5, OF_SHOWN_TEXT),
+    allowed("picture/markup.rs", "/", 1, OF_LENGTHS),
+    allowed("picture/mod.rs", A_LETTER, 4, OF_SHOWN_TEXT),
+    allowed(
+        "picture/mod.rs",
+        "/",
+        1,
+        "an image is as long as its frames",
+    ),
+    allowed("picture/mod.rs", "|", 1, A_PATTERN),
+    allowed(
+        "picture/panel.rs",
+        "%",
+        2,
+        "every tenth major is set apart, and rows of a strip",
+    ),
+    allowed("picture/panel.rs", "*", 13, OF_LENGTHS),
+    allowed("picture/panel.rs", "/", 3, OF_LENGTHS),
+    allowed("picture/svg.rs", "*", 2, OF_LENGTHS),
+    allowed("picture/svg.rs", "/", 3, OF_LENGTHS),
+    allowed("picture/terminal.rs", A_LETTER, 4, OF_SHOWN_TEXT),
+    allowed("picture/terminal.rs", "*", 5, OF_LENGTHS),
+    allowed("usage.rs", "concat", 1, "the version as cargo has it"),
     allowed(
         "walk.rs",
         "from_be_bytes",
         1,
         "a word is shown as it stands",
     ),
+    allowed("walk.rs", "*", 4, OF_WORDS),
+    allowed("walk.rs", "*=", 1, "a look ahead is doubled"),
+    allowed(
+        "walk.rs",
+        "/",
+        3,
+        "bytes are counted in words, and a search halves",
+    ),
+    allowed("walk.rs", "ops", 1, "Range"),
+    allowed("walk.rs", "|", 1, A_PATTERN),
+    allowed("words.rs", A_LETTER, 10, OF_SHOWN_TEXT),
+    allowed("words.rs", "|", 5, A_PATTERN),
     allowed("words.rs", "21", 1, A_NUMBER_OF_01),
     allowed(
         "words.rs",
@@ -112,8 +138,10 @@ const ALLOWED: [Allowed; 24] = [
 
 /// Lengths of a drawing stand here; 01's figures are not among them.
 const DRAWING: &str = "picture/";
+/// Below every IDCODE and every memory's length, and above every length of a drawing.
+const LONGEST: u64 = 2048;
 
-/// A plain number that is none of a part's figures.
+/// A plain number that is none of a part's figures, nor one by which fields are cut.
 fn is_length(token: &str) -> bool {
     let is_figure = |number: u64| {
         let has = |part: &Part| {
@@ -122,82 +150,35 @@ fn is_length(token: &str) -> bool {
         };
         PARTS.iter().any(has)
     };
-    token.parse().is_ok_and(|number| !is_figure(number))
+    let is_length =
+        |number: u64| number < LONGEST && !number.is_power_of_two() && !is_figure(number);
+    token.parse().is_ok_and(is_length)
 }
 
-/// Whether the tokens around an operator are parts of a pattern: names of values and variants,
-/// texts, and what ends or begins in brackets.
-fn is_pattern(tokens: &[Token], place: usize) -> bool {
-    let is_value = |token: &Token| match token.kind {
-        Kind::Text => true,
-        Kind::Word => token.text.starts_with(char::is_uppercase),
-        Kind::Sign => ["(", ")", "}", "_"].contains(&token.text.as_str()),
-        Kind::Number => false,
+/// What is wrong with the forbidden tokens of a file: they have no reason to stand there, or not
+/// so many times.
+fn wrong(file: &str, found: &[Found]) -> Vec<String> {
+    let allowed: Vec<&Allowed> = ALLOWED.iter().filter(|it| it.file == file).collect();
+    let has_reason = |token: &str| {
+        let is_drawn = file.starts_with(DRAWING) && is_length(token);
+        is_drawn || allowed.iter().any(|it| it.token == token)
     };
-    // The last name of a path.
-    let mut after = place + 1;
-    while tokens.get(after + 1).is_some_and(|it| it.text == "::") {
-        after += 2;
-    }
-    let before = place.checked_sub(1).and_then(|place| tokens.get(place));
-    before.is_some_and(is_value) && tokens.get(after).is_some_and(is_value)
-}
-
-fn is_forbidden_sign(tokens: &[Token], place: usize) -> bool {
-    let token = &tokens[place];
-    let next_is_spaced = tokens.get(place + 1).is_some_and(|next| next.is_spaced);
-    let is_between = token.is_spaced && next_is_spaced;
-    match token.text.as_str() {
-        "<<" | ">>" => token.is_spaced,
-        "&" => is_between,
-        "|" => is_between && !is_pattern(tokens, place),
-        sign => FORBIDDEN_SIGNS.contains(&sign),
-    }
-}
-
-fn is_forbidden_number(text: &str) -> bool {
-    let is_plain = |text: &str| text.bytes().all(|digit| digit.is_ascii_digit());
-    let digits: String = text.chars().filter(|letter| *letter != '_').collect();
-    let is_small = digits.parse().is_ok_and(|number: u64| number <= MOST);
-    // Another base, an exponent or a type is no plain number either.
-    !(is_plain(&digits) && is_small)
-}
-
-/// Texts that hold an IDCODE, the beginning of the sync word or a figure of 01's table.
-fn is_forbidden_text(text: &str) -> bool {
-    let plain = text.replace("\\x", "").to_uppercase();
-    let letters: String = plain.chars().filter(char::is_ascii_alphanumeric).collect();
-    let has_code = PARTS
-        .iter()
-        .any(|part| letters.contains(&format!("{:08X}", part.idcode)));
-    let mut numbers = text.split(|letter: char| !letter.is_ascii_digit());
-    let has_figure = numbers.any(|number| {
-        let is_figure = |figure: u64| figure > 99 && number == figure.to_string();
-        PARTS.iter().any(|part| {
-            is_figure(part.frame_words().into())
-                || is_figure(part.frame_count().into())
-                || is_figure(part.memory_bytes() as u64)
-        })
-    });
-    has_code || letters.contains("AA99") || has_figure
-}
-
-/// The tokens of a source that the rule forbids, with their lines.
-fn forbidden(source: &str) -> Vec<(usize, String)> {
-    let tokens = tokens::of(source);
-    let is_forbidden = |place: usize| {
-        let Token { kind, text, .. } = &tokens[place];
-        match kind {
-            Kind::Word => FORBIDDEN_WORDS.contains(&text.as_str()),
-            Kind::Sign => is_forbidden_sign(&tokens, place),
-            Kind::Number => is_forbidden_number(text),
-            Kind::Text => is_forbidden_text(text),
+    let others = found.iter().filter(|(_, token)| !has_reason(token));
+    let mut wrong: Vec<String> = others
+        .map(|(line, token)| format!("{file}:{line}: {token}"))
+        .collect();
+    for Allowed {
+        token, times, why, ..
+    } in allowed
+    {
+        let count = found.iter().filter(|(_, it)| it == token).count();
+        if count != *times {
+            wrong.push(format!(
+                "{file}: {token} stands there {count} times, not {times} ({why})"
+            ));
         }
-    };
-    let places = (0..tokens.len()).filter(|place| is_forbidden(*place));
-    places
-        .map(|place| (tokens[place].line, tokens[place].text.clone()))
-        .collect()
+    }
+    wrong
 }
 
 fn sources(folder: &Path) -> Vec<PathBuf> {
@@ -215,92 +196,25 @@ fn sources(folder: &Path) -> Vec<PathBuf> {
     files
 }
 
-#[test]
-fn sources_have_no_means_to_decode() {
+/// The forbidden tokens of every source of the command.
+fn found() -> Vec<(String, Vec<Found>)> {
     let root = Path::new(env!("CARGO_MANIFEST_DIR")).join("src");
-    let mut found: Vec<(String, String)> = Vec::new();
-    let mut wrong = Vec::new();
-    for path in sources(&root) {
+    let found = |path: PathBuf| {
         let file = path.strip_prefix(&root).expect("it stands under the root");
-        let file = file.display().to_string();
         let source = fs::read_to_string(&path).expect("a source is text");
-        for (line, token) in forbidden(&source) {
-            let is_known = ALLOWED
-                .iter()
-                .any(|it| it.file == file && it.token == token);
-            let is_drawn = file.starts_with(DRAWING) && is_length(&token);
-            if !is_known && !is_drawn {
-                wrong.push(format!("{file}:{line}: {token}"));
-            }
-            found.push((file.clone(), token));
-        }
-    }
-    for it in &ALLOWED {
-        let is_it = |(file, token): &&(String, String)| file == it.file && token == it.token;
-        let (count, Allowed { file, token, .. }) = (found.iter().filter(is_it).count(), it);
-        if count != it.times {
-            let (times, why) = (it.times, it.why);
-            wrong.push(format!(
-                "{file}: {token} stands there {count} times, not {times} ({why})"
-            ));
-        }
-    }
-    assert!(wrong.is_empty(), "{}", wrong.join("\n"));
+        (file.display().to_string(), forbidden::in_source(&source))
+    };
+    sources(&root).into_iter().map(found).collect()
 }
 
-/// Sources that break the rule, and what of them is told.
-const BAD: [(&str, &str); 24] = [
-    ("let register = header >> 13;", ">>"),
-    ("let register = header\n    >> shift;", ">>"),
-    ("let header = kind << 1;", "<<"),
-    ("crc >>= 1;", ">>="),
-    ("let minor = address & mask;", "&"),
-    ("let header = kind | register;", "|"),
-    ("let header = kind | 3;", "|"),
-    ("flags |= word;", "|="),
-    ("let crc = crc ^ word;", "^"),
-    ("let filled = left % words;", "%"),
-    ("let frames = 368;", "368"),
-    ("let frames = 3_68;", "3_68"),
-    ("let words = 37u32;", "37u32"),
-    ("let sync = [170, 1];", "170"),
-    ("let idcode = 0x0140_D093;", "0x0140_D093"),
-    ("let two = 0b10;", "0b10"),
-    ("let idcode = \"0140d093\";", "0140d093"),
-    ("let sync = b\"\\xAA\\x99Uf\";", "\\xAA\\x99Uf"),
-    ("let words = \"it has 1945 frames\";", "it has 1945 frames"),
-    ("let word = word.swap_bytes();", "swap_bytes"),
-    ("unsafe { work() }", "unsafe"),
-    ("extern \"C\" {}", "extern"),
-    ("use seamwillow_tests::loader;", "seamwillow_tests"),
-    ("let text = r#\"\"#; let frames = 615;", "615"),
-];
-
-/// Sources that keep the rule.
-const GOOD: [&str; 12] = [
-    "let lists: Vec<Vec<u8>> = Vec::new();",
-    "fn borrow<'a>(text: &'a str) -> &'a str { text }",
-    "let sum = |a: u32, b: u32| a + b;",
-    "let none = || 0;",
-    "match register { register::FDRI | register::LOUT => 1, _ => 2 }",
-    "match text { \"-h\" | \"--help\" => 1, _ => 2 }",
-    "if is_one && is_two || is_three {}",
-    "// header >> 13 & 0x1F, 368 frames",
-    "/* unsafe /* 368 */ 615 */",
-    "let quote = '\"'; let shown = \"XC3S50 has > 16 frames >> here\";",
-    "let ten = 1_0 * 16;",
-    "let escape = '\\''; let tick = 'a';",
-];
-
 #[test]
-fn the_rule_can_be_broken() {
-    for (source, token) in BAD {
-        let told: Vec<String> = forbidden(source).into_iter().map(|it| it.1).collect();
-        assert!(told.iter().any(|it| it == token), "{source}: {told:?}");
-    }
-    for source in GOOD {
-        assert_eq!(forbidden(source), [], "{source}");
-    }
+fn sources_have_no_means_to_decode() {
+    let sources = found();
+    let is_gone = |it: &&Allowed| sources.iter().all(|(file, _)| file != it.file);
+    let gone = ALLOWED.iter().filter(is_gone).map(|it| it.file.to_string());
+    let wrong = sources.iter().flat_map(|(file, found)| wrong(file, found));
+    let wrong: Vec<String> = wrong.chain(gone).collect();
+    assert!(wrong.is_empty(), "{}", wrong.join("\n"));
 }
 
 #[test]

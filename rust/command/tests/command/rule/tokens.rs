@@ -4,8 +4,12 @@
 pub enum Kind {
     Word,
     Number,
-    /// What stands in a literal of text, bytes or a character, escapes as they are.
+    /// What stands in a literal of text, escapes as they are; the next two likewise.
     Text,
+    /// A text of bytes.
+    Bytes,
+    /// A character or a byte.
+    Letter,
     Sign,
 }
 
@@ -19,8 +23,9 @@ pub struct Token {
 }
 
 /// Signs of several letters, the longest first.
-const SIGNS: [&str; 15] = [
-    "<<=", ">>=", "<<", ">>", "&&", "||", "&=", "|=", "^=", "%=", "::", "->", "=>", "..", "==",
+const SIGNS: [&str; 17] = [
+    "<<=", ">>=", "<<", ">>", "&&", "||", "&=", "|=", "^=", "%=", "*=", "/=", "::", "->", "=>",
+    "..", "==",
 ];
 
 pub fn of(source: &str) -> Vec<Token> {
@@ -71,7 +76,12 @@ fn comment(rest: &str) -> Option<usize> {
 /// The length of the token that stands first, and the token.
 fn token(rest: &str) -> (usize, Option<(Kind, &str)>) {
     if let Some((start, end, length)) = literal(rest) {
-        return (length, Some((Kind::Text, &rest[start..end])));
+        let kind = match (rest.starts_with('b'), rest[..start].ends_with('\'')) {
+            (_, true) => Kind::Letter,
+            (true, false) => Kind::Bytes,
+            (false, false) => Kind::Text,
+        };
+        return (length, Some((kind, &rest[start..end])));
     }
     let is_name = |letter: char| letter.is_alphanumeric() || letter == '_';
     let length = rest.find(|letter| !is_name(letter)).unwrap_or(rest.len());
