@@ -54,6 +54,23 @@ fn shown(bytes: &[u8]) -> String {
     }
 }
 
+/// FNV-1a of 64 bits.
+fn hash(bytes: &[u8]) -> u64 {
+    let taken = |hash: u64, byte: &u8| (hash ^ u64::from(*byte)).wrapping_mul(0x0100_0000_01B3);
+    bytes.iter().fold(0xCBF2_9CE4_8422_2325, taken)
+}
+
+/// The length of a file; and of a picture a hash, since it is too long to be stored for every run
+/// and any change is to show.
+fn measured(name: &str, bytes: &[u8]) -> String {
+    let is_picture = [".svg", ".html"].iter().any(|it| name.ends_with(it));
+    let length = bytes.len();
+    match is_picture {
+        true => format!("{length} bytes, hash {:016X}", hash(bytes)),
+        false => format!("{length} bytes"),
+    }
+}
+
 /// The text that is stored of a run.
 fn told(scratch: &Scratch, line: &str) -> String {
     let before = scratch.names();
@@ -64,8 +81,8 @@ fn told(scratch: &Scratch, line: &str) -> String {
     text += &format!("--- exit status {}\n", told.status);
     for name in scratch.names() {
         if !before.contains(&name) {
-            let bytes = scratch.read(&name).len();
-            text += &format!("--- written: {name}, {bytes} bytes\n");
+            let measured = measured(&name, &scratch.read(&name));
+            text += &format!("--- written: {name}, {measured}\n");
             fs::remove_file(scratch.path(&name)).expect("what was written can be removed");
         }
     }
@@ -97,14 +114,18 @@ fn with_inputs(name: &str) -> Scratch {
     scratch
 }
 
+/// Whether what is told is to be stored.
+fn is_blessed() -> bool {
+    env::var_os(VARIABLE).is_some_and(|value| value == "1")
+}
+
 #[test]
 fn runs_are_as_stored() {
-    let is_blessed = env::var_os(VARIABLE).is_some_and(|value| value == "1");
     let scratch = with_inputs("runs");
     let mut others = Vec::new();
     for Case { name, line } in cases::all() {
         let (stored, told) = (stored(&name), told(&scratch, &line));
-        if is_blessed {
+        if is_blessed() {
             let file = folder().join(format!("{name}.out"));
             fs::write(file, &told).expect("the stored runs can be written");
         } else if stored != told {
@@ -117,6 +138,29 @@ fn runs_are_as_stored() {
         others.len(),
         others.concat()
     );
+}
+
+/// Runs whose picture is stored whole, and the picture's kind.
+const WHOLE: [(&str, &str); 2] = [("map-svg", "svg"), ("map-html", "html")];
+
+#[test]
+fn pictures_are_as_stored() {
+    let scratch = with_inputs("whole");
+    for (name, kind) in WHOLE {
+        let case = cases::all().into_iter().find(|case| case.name == name);
+        run(&scratch, &case.expect("the run has a case").line);
+        let drawn = String::from_utf8(scratch.read(format!("made.{kind}"))).expect("it is text");
+        let file = folder().join(format!("{name}.{kind}"));
+        if is_blessed() {
+            fs::write(&file, &drawn).expect("the stored pictures can be written");
+        }
+        let stored = fs::read_to_string(&file).unwrap_or_default();
+        assert!(
+            stored == drawn,
+            "{name}.{kind}; {VARIABLE}=1 stores it anew\n{}",
+            difference(&stored, &drawn)
+        );
+    }
 }
 
 #[test]
