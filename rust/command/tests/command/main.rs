@@ -1,5 +1,6 @@
 //! The command, its documents and what is installed, tried as a user would.
 
+mod colours;
 mod common;
 mod damaged;
 mod documents;

@@ -3,13 +3,15 @@
 mod markup;
 mod png;
 
+use crate::common::streams::partial;
 use crate::common::Scratch;
 use crate::tools::{has, ran, root, run};
 use markup::{elements, Element};
-use seamwillow_tests::reference::{LOOKUPS, PARTS};
+use seamwillow_tests::reference::{address_fields, LOOKUPS, PARTS};
 use seamwillow_tests::stream::full_configuration;
 use std::collections::{BTreeMap, BTreeSet};
 use std::fs;
+use std::iter;
 use std::path::Path;
 use std::process::Command;
 
@@ -20,13 +22,13 @@ const DEVICES: [u32; 2] = [0, 7];
 const HOSTILE: &str = "a<b>&\"'\u{1b}]]>.bit";
 
 /// A picture as a file, and as a page.
-struct Drawn {
-    svg: String,
-    html: String,
+pub struct Drawn {
+    pub svg: String,
+    pub html: String,
 }
 
 /// Draws a stream's frames; the exit status may be that of a verdict.
-fn drawn(scratch: &Scratch, stream: &[u8], name: &str, arguments: &[&str]) -> Drawn {
+pub fn drawn(scratch: &Scratch, stream: &[u8], name: &str, arguments: &[&str]) -> Drawn {
     let file = scratch.path(name);
     fs::write(&file, stream).expect("a stream is written");
     let (svg, html) = (scratch.path("map.svg"), scratch.path("map.html"));
@@ -55,7 +57,7 @@ fn whole(device: u32) -> Vec<u8> {
     )
 }
 
-fn well_formed(text: &str) -> Vec<Element> {
+pub fn well_formed(text: &str) -> Vec<Element> {
     elements(text).unwrap_or_else(|wrong| panic!("{wrong}"))
 }
 
@@ -74,27 +76,56 @@ fn pictures_and_pages_are_well_formed() {
     }
 }
 
+/// 001's Table 12: the columns of block 0 from the left, with the sides of TERM and IOI.
+fn column(device: u32, block: u32, major: u32) -> &'static str {
+    let clbs = iter::repeat_n("CLB", PARTS[device as usize].columns as usize);
+    let left = ["GCLK", "TERM_L", "IOI_L"].into_iter();
+    let mut names = left.chain(clbs).chain(["IOI_R", "TERM_R"]);
+    match block {
+        0 => names.nth(major as usize).expect("a column has a name"),
+        1 => "Block RAM",
+        _ => "Block RAM interconnect",
+    }
+}
+
+/// What the cells of a part must tell where every frame is written.
+fn expected_notes(device: u32) -> Vec<String> {
+    let note = |number| {
+        let (_, address) = LOOKUPS.frame_address(device, number);
+        let [block, major, minor] = address_fields(address);
+        let column = column(device, block, major);
+        format!(
+            "frame {number}: block {block} major {major} minor {minor}, {column}\n\
+             address {address:08X}\nwritten"
+        )
+    };
+    let frames = PARTS[device as usize].frame_count();
+    (0..frames).map(note).collect()
+}
+
+/// What the cells of a picture tell, as they stand.
+fn notes(text: &str) -> Vec<String> {
+    let titles = well_formed(text)
+        .into_iter()
+        .filter(|it| it.name == "title");
+    let titles = titles.map(|it| it.text);
+    titles.filter(|it| it.starts_with("frame ")).collect()
+}
+
 #[test]
-fn every_frame_has_a_cell_with_its_number_and_its_address() {
+fn every_frame_has_a_cell_with_its_number_its_address_and_its_column() {
     let scratch = Scratch::new("cells");
     for device in DEVICES {
         let drawn = drawn(&scratch, &whole(device), "whole.bit", &[]);
-        for text in [&drawn.svg, &drawn.html] {
-            let elements = well_formed(text);
-            let titles = elements
-                .iter()
-                .filter(|it| it.name == "title")
-                .map(|it| it.text.as_str());
-            let titles: Vec<&str> = titles.filter(|it| it.starts_with("frame ")).collect();
-            let frames = PARTS[device as usize].frame_count();
-            assert_eq!(titles.len(), frames as usize);
-            for number in 0..frames {
-                let (_, address) = LOOKUPS.frame_address(device, number);
-                let (start, place) = (format!("frame {number}"), format!("{address:08X}"));
-                let is_it = |it: &&&str| it.starts_with(&start) && it.contains(&place);
-                assert_eq!(titles.iter().filter(is_it).count(), 1, "{start}, {place}");
-            }
-        }
+        let (expected, svg, html) = (
+            expected_notes(device),
+            notes(&drawn.svg),
+            notes(&drawn.html),
+        );
+        let mut all = expected.iter().zip(svg.iter().zip(&html));
+        let other = all.find(|(it, told)| *told != (*it, *it));
+        assert_eq!(other, None, "{device}");
+        assert_eq!([svg.len(), html.len()], [expected.len(); 2]);
     }
 }
 
@@ -115,12 +146,17 @@ fn symbols(svg: &str) -> BTreeMap<String, usize> {
 fn what_happens_to_a_frame_shows_without_colour() {
     let scratch = Scratch::new("symbols");
     let pupil = fs::read(root().join("examples/pupil.bit")).expect("there is an example");
-    // Seven frames are written: one in this range, and two of its frames are kept.
+    // Seven frames are written: one in this range, whose other frame is kept.
     let drawn = drawn(&scratch, &pupil, "pupil.bit", &["--frames", "64:2"]);
-    let mut counts: Vec<usize> = symbols(&drawn.svg).into_values().collect();
-    counts.sort_unstable();
     // One swatch a category stands in the legend.
-    assert_eq!(counts, [1 + 1, 1 + 1, 6 + 1, 360 + 1]);
+    let counts = [
+        ("#f-in", 1 + 1),
+        ("#f-kept", 1 + 1),
+        ("#f-other", 360 + 1),
+        ("#f-out", 6 + 1),
+    ];
+    let counts = counts.map(|(symbol, count)| (symbol.to_string(), count));
+    assert_eq!(symbols(&drawn.svg), BTreeMap::from(counts));
     let shapes: Vec<String> = drawn
         .svg
         .split("<symbol")
@@ -138,6 +174,30 @@ fn without_colour(symbol: &str) -> String {
     let is_colour = |word: &&str| word.contains("fill=") || word.contains("stroke=\"#");
     let words = body.split_whitespace().filter(|word| !is_colour(word));
     words.collect::<Vec<&str>>().join(" ")
+}
+
+/// The selectors that the page hides in print.
+fn hidden_in_print(html: &str) -> Vec<&str> {
+    let print = html.split("@media print{").skip(1);
+    let rules = print.flat_map(|it| it.split('}').map_while(|rule| rule.split_once('{')));
+    let hidden = rules.filter(|(_, rule)| rule.contains("display:none"));
+    let selectors = hidden.flat_map(|(selectors, _)| selectors.split(','));
+    selectors.map(str::trim).collect()
+}
+
+#[test]
+fn notes_are_printed() {
+    let scratch = Scratch::new("print");
+    let html = drawn(&scratch, &partial(0), "good.bit", &[]).html;
+    // Paper has no pointer, which the hint speaks of.
+    assert_eq!(hidden_in_print(&html), [".hint"]);
+    let elements = well_formed(&html);
+    for words in ["stores 2 frames: 3-4", "was not asked"] {
+        let is_it = |it: &&Element| it.name == "p" && it.text.contains(words);
+        let notes: Vec<&Element> = elements.iter().filter(is_it).collect();
+        let classes = notes.iter().map(|it| it.attribute("class"));
+        assert_eq!(classes.collect::<Vec<_>>(), [Some("note")], "{words}");
+    }
 }
 
 /// The page of a part in Debian's browser.
