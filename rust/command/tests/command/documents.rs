@@ -17,6 +17,10 @@ const PYTHON: &str = "python3";
 /// What the commands read and do not change.
 const READ: [&str; 4] = ["crates", "include", "rust", "target"];
 
+/// Where the programs are that a document's commands may name, and what puts them there.
+const PROGRAMS: &str = "target/bin/";
+const BUILD: &str = "rt check build load50 vectors layout_vectors";
+
 /// A code block, and the file that the line before it names.
 struct Block {
     file: Option<String>,
@@ -100,6 +104,17 @@ fn printed(scratch: &Scratch, command: &str) -> String {
     String::from_utf8_lossy(&output.stdout).into_owned()
 }
 
+/// Asserts that the programs that a command names are there.
+fn assert_built(command: &str) {
+    let is_program = |word: &&str| word.starts_with(PROGRAMS);
+    let mut programs = command.split_whitespace().filter(is_program);
+    let missing = programs.find(|program| !root().join(program).is_file());
+    assert_eq!(
+        missing, None,
+        "there is no such program: `{BUILD}` makes it"
+    );
+}
+
 /// Runs a document's commands; how many there were.
 fn run(document: &str) -> usize {
     let text = fs::read_to_string(root().join(document)).expect("the document can be read");
@@ -114,6 +129,7 @@ fn run(document: &str) -> usize {
             if command.starts_with(PYTHON) && !has(PYTHON, &format!("{document}: {command}")) {
                 continue;
             }
+            assert_built(&command);
             // A blank line before the next command belongs to neither.
             let told = |text: &str| text.trim_end().to_string();
             assert_eq!(
