@@ -1,9 +1,8 @@
 //! Colours say what the words say: on a terminal, in the picture and on the page.
 
 use crate::common::streams::partial;
-use crate::common::{Scratch, Told};
+use crate::common::Scratch;
 use crate::pictures::{drawn, well_formed};
-use crate::tools::has;
 
 /// A terminal's bold colours, and their end.
 const GREEN: &str = "\u{1b}[1;32m";
@@ -25,21 +24,13 @@ fn scratch(name: &str) -> Scratch {
     scratch
 }
 
-/// What a run on a terminal writes, with the line ends that a terminal makes taken off.
-fn on_terminal(scratch: &Scratch, line: &str) -> String {
-    let told = Told::of(scratch.shell(&format!("script -qec \"$0 {line}\" /dev/null")));
-    told.text().replace("\r\n", "\n")
-}
-
-fn has_terminal() -> bool {
-    has("script", "colours on a terminal (rust/command/tests)")
+/// What a run on a terminal writes; none where there is no terminal to be had.
+fn on_terminal(scratch: &Scratch, line: &str) -> Option<String> {
+    scratch.on_terminal(line, &[]).map(|(_, text)| text)
 }
 
 #[test]
 fn a_terminal_has_pass_in_green_and_fail_in_red() {
-    if !has_terminal() {
-        return;
-    }
     let scratch = scratch("painted");
     for (line, start) in [
         (format!("check {INSIDE}"), format!("{GREEN}PASS{END} ")),
@@ -47,19 +38,21 @@ fn a_terminal_has_pass_in_green_and_fail_in_red() {
         (format!("map {INSIDE}"), format!("{GREEN}PASS{END} ")),
         (format!("map {OUTSIDE}"), format!("{RED}FAIL{END} ")),
     ] {
-        let text = on_terminal(&scratch, &format!("{line} good.bit"));
+        let Some(text) = on_terminal(&scratch, &format!("{line} good.bit")) else {
+            return;
+        };
         assert!(text.starts_with(&start), "{line}: {text:?}");
     }
 }
 
 #[test]
 fn a_terminal_has_frames_inside_in_green_and_outside_in_red() {
-    if !has_terminal() {
-        return;
-    }
     let scratch = scratch("painted-frames");
     let line = format!("map {OUTSIDE} good.bit");
-    let mut text = on_terminal(&scratch, &line);
+    let texts = on_terminal(&scratch, &line).zip(on_terminal(&scratch, "map good.bit"));
+    let Some((mut text, without_range)) = texts else {
+        return;
+    };
     // One more of each stands in the legend.
     for (colour, letter, count) in [(GREEN, "#", 2), (RED, "!", 2), (CYAN, "o", 3)] {
         let painted = format!("{colour}{letter}{END}");
@@ -68,9 +61,8 @@ fn a_terminal_has_frames_inside_in_green_and_outside_in_red() {
     }
     let bare = text.replace(&format!("{RED}FAIL{END}"), "FAIL");
     assert_eq!(bare, scratch.run(&line).text());
-    let text = on_terminal(&scratch, "map good.bit");
-    let written = text.matches(&format!("{GREEN}#{END}")).count();
-    assert_eq!(written, 3, "without a range: {text:?}");
+    let written = without_range.matches(&format!("{GREEN}#{END}")).count();
+    assert_eq!(written, 3, "without a range: {without_range:?}");
 }
 
 /// The words of the badge in a picture, and the colour of the ground that stands before them.

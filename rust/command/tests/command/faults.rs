@@ -10,7 +10,6 @@ use crate::common::{Scratch, Told};
 use std::fs::{self, File, Permissions};
 use std::io;
 use std::os::unix::fs::PermissionsExt;
-use std::process::{Command, Stdio};
 
 /// A folder with a good stream, a good layout and one that is refused.
 fn scratch(name: &str) -> Scratch {
@@ -200,23 +199,6 @@ fn a_long_stream_is_built() {
     assert_eq!((told.status, told.err.as_str()), (2, words));
 }
 
-/// A run on a terminal, with the line ends that a terminal makes taken off; none without `script`.
-fn on_terminal(scratch: &Scratch, line: &str, colour: &[(&str, &str)]) -> Option<(i32, String)> {
-    let script = Command::new("script")
-        .arg("--version")
-        .stdout(Stdio::null())
-        .status();
-    if !script.is_ok_and(|status| status.success()) {
-        println!("SKIPPED: {line} on a terminal, since there is no script (bsdutils)");
-        return None;
-    }
-    let mut command = scratch.shell(&format!("script -qec \"$0 {line}\" /dev/null"));
-    command.envs(colour.iter().copied());
-    let output = command.output().expect("script starts");
-    let text = String::from_utf8_lossy(&output.stdout).replace("\r\n", "\n");
-    Some((output.status.code().unwrap_or_default(), text))
-}
-
 /// Names by which a terminal is reached, and how it is told of.
 const TERMINALS: [(&str, &str); 7] = [
     ("-", "standard output"),
@@ -234,7 +216,7 @@ fn no_binary_to_a_terminal() {
     let words = "a terminal takes no binary: name a file or use a pipe";
     for (target, name) in TERMINALS {
         let refused = |line: String| {
-            if let Some((status, text)) = on_terminal(&scratch, &line, &[]) {
+            if let Some((status, text)) = scratch.on_terminal(&line, &[]) {
                 assert_eq!(text, format!("seamwillow: {name}: {words}\n"), "{line}");
                 // A pipe has the status of its last command.
                 assert!(status == 2 || line.ends_with("cat"), "{line}: {status}");
@@ -244,7 +226,7 @@ fn no_binary_to_a_terminal() {
         refused(format!("load good.bit -o {target}"));
     }
     // A picture is text, which a terminal takes.
-    if let Some((status, text)) = on_terminal(&scratch, "map good.bit --svg /dev/tty", &[]) {
+    if let Some((status, text)) = scratch.on_terminal("map good.bit --svg /dev/tty", &[]) {
         assert!(status == 0 && text.contains("</svg>"), "{status}: {text}");
     }
 }
@@ -259,7 +241,7 @@ fn colour_only_on_a_terminal() {
         let plain = scratch.run(&line);
         assert_eq!(plain.status, status);
         assert!(!plain.text().contains(escape), "{plain:?}");
-        let Some((told, text)) = on_terminal(&scratch, &line, &[]) else {
+        let Some((told, text)) = scratch.on_terminal(&line, &[]) else {
             return;
         };
         assert!(told == status && text.contains(escape), "{text}");
@@ -268,12 +250,14 @@ fn colour_only_on_a_terminal() {
             bare = bare.replace(code, "");
         }
         assert_eq!(bare, plain.text(), "the same words");
-        let forbidden = on_terminal(&scratch, &line, &[("NO_COLOR", "1")]);
+        let forbidden = scratch.on_terminal(&line, &[("NO_COLOR", "1")]);
         assert_eq!(forbidden, Some((status, plain.text())));
         // An empty NO_COLOR forbids nothing (no-color.org).
-        let empty = on_terminal(&scratch, &line, &[("NO_COLOR", "")]);
+        let empty = scratch.on_terminal(&line, &[("NO_COLOR", "")]);
         assert_eq!(empty, Some((status, text)));
     }
-    let (_, json) = on_terminal(&scratch, "check --json good.bit", &[]).expect("as above");
+    let (_, json) = scratch
+        .on_terminal("check --json good.bit", &[])
+        .expect("as above");
     Value::of(&json);
 }

@@ -4,6 +4,7 @@ pub mod expected;
 pub mod json;
 pub mod streams;
 
+use crate::tools::has;
 use std::ffi::OsStr;
 use std::fs;
 use std::io::{ErrorKind, Write};
@@ -66,6 +67,19 @@ impl Scratch {
         command.args(["-c", line, BINARY]).current_dir(&self.folder);
         command.stdin(Stdio::null()).env_remove("NO_COLOR");
         command
+    }
+
+    /// A run on a terminal: its status, and what it writes with the line ends that a terminal makes
+    /// taken off; none without `script`.
+    pub fn on_terminal(&self, line: &str, colour: &[(&str, &str)]) -> Option<(i32, String)> {
+        if !has("script", &format!("{line} on a terminal")) {
+            return None;
+        }
+        let mut command = self.shell(&format!("script -qec \"$0 {line}\" /dev/null"));
+        command.envs(colour.iter().copied());
+        let output = command.output().expect("script starts");
+        let text = String::from_utf8_lossy(&output.stdout).replace("\r\n", "\n");
+        Some((output.status.code().unwrap_or_default(), text))
     }
 
     /// A run with arguments that stand apart from each other by spaces.

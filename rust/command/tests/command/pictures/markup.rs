@@ -35,12 +35,10 @@ pub fn elements(document: &str) -> Result<Vec<Element>, String> {
             close(&mut open, name.trim_end())?;
             continue;
         }
-        let (body, is_closed) = tag
-            .strip_suffix('/')
-            .map_or((tag, false), |body| (body, true));
-        let (name, attributes) = parts(body)?;
+        let closed = tag.strip_suffix('/');
+        let (name, attributes) = parts(closed.unwrap_or(tag))?;
         roots += usize::from(open.is_empty());
-        if !is_closed {
+        if closed.is_none() {
             open.push(name.clone());
         }
         let text = text.to_string();
