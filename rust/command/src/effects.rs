@@ -73,7 +73,7 @@ impl fmt::Display for Stop {
 }
 
 /// Words that act on more than frames, all of one kind.
-#[derive(Clone, Debug)]
+#[derive(Clone, PartialEq, Eq, Debug)]
 pub struct WholePartAction {
     pub what: String,
     /// Where the first of them stands.

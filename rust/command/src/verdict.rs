@@ -54,8 +54,7 @@ impl Verdict {
         };
         // A part in use keeps registers and the current frame, on which a stream may depend.
         if let Some(walk) = walk.filter(|_| all_hold(&questions)) {
-            let again = Effects::of(&mut walk.again());
-            questions.push(does_the_same(&effects, &again, &asked(&again)));
+            questions.push(does_the_same(walk, &effects, asked));
         }
         Self {
             part,
@@ -281,17 +280,27 @@ fn checked(effects: &Effects) -> Question {
     }
 }
 
-/// Asked of a stream that passes so far: the same questions of a second load, and the same frames.
-fn does_the_same(effects: &Effects, again: &Effects, asked: &[Question]) -> Question {
-    let name = "again";
-    match asked.iter().find(|question| !question.holds) {
-        Some(Question { words, .. }) => {
-            question(name, false, format!("loaded a second time: {words}"))
+/// Asked of a stream that passes so far: a second load passes too, and leaves the same.
+fn does_the_same(
+    walk: Walk,
+    first: &Effects,
+    asked: impl Fn(&Effects) -> Vec<Question>,
+) -> Question {
+    let bytes = Walk::new(walk.part, walk.stream()).memory_left();
+    let mut walk = walk.again();
+    let is_rewritten = walk.memory_left() != bytes;
+    let again = Effects::of(&mut walk);
+    let failing = asked(&again).into_iter().find(|question| !question.holds);
+    let differs = match failing {
+        Some(question) => Some(format!(": {}", question.words)),
+        None if again.stored != first.stored => Some(format!(" it {}", again.told())),
+        None if is_rewritten => Some(" it stores other bytes".to_string()),
+        None if again.whole_part != first.whole_part => {
+            Some(" it acts otherwise on the whole part".to_string())
         }
-        None if again.stored != effects.stored => {
-            let words = format!("loaded a second time it {}", again.told());
-            question(name, false, words)
-        }
-        None => question(name, true, "loaded a second time it does the same"),
-    }
+        None => None,
+    };
+    let words = differs.as_deref().unwrap_or(" it does the same");
+    let words = format!("loaded a second time{words}");
+    question("again", differs.is_none(), words)
 }

@@ -140,6 +140,13 @@ impl<'a> Walk<'a> {
         Self::resumed(self.part, self.record, self.stream)
     }
 
+    /// What the whole stream makes of a memory of zeros, from the record as it is.
+    pub fn memory_left(&self) -> Vec<u8> {
+        let mut memory = self.part.memory(0);
+        self.record.clone().load(&mut memory, self.stream);
+        memory
+    }
+
     pub fn stream(&self) -> &'a [u8] {
         self.stream
     }

@@ -11,7 +11,7 @@ use seamwillow_tests::loader::{Device, Phase};
 use seamwillow_tests::names::{command, register};
 use seamwillow_tests::random::{self, Random};
 use seamwillow_tests::reference::{self, LOOKUPS, PARTS};
-use seamwillow_tests::stream::write_header;
+use seamwillow_tests::stream::{write_header, Stream};
 use seamwillow_tests::{guided, layouts};
 
 /// Streams of each of the four tests on many; they are judged so many in a run.
@@ -47,11 +47,30 @@ fn followed(random: &mut Random, desk: Desk, memory: &mut [u8]) -> Vec<u8> {
         return guided::stream(random, &LOOKUPS, fresh, &mut memory);
     }
     let (_, fresh) = Device::power_on(desk.device, memory);
-    let mut stream = guided::stream(random, &LOOKUPS, fresh.clone(), memory);
+    // At times no stream at all.
+    if random.one_in(100) {
+        let length = random.place(1000);
+        return random.bytes(length);
+    }
+    let mut stream = match random.one_in(2) {
+        true => Vec::new(),
+        false => settled(),
+    };
+    let mut part = fresh.clone();
+    part.load(memory, stream.iter().copied());
+    stream.extend(guided::stream(random, &LOOKUPS, part, memory));
     if !random.one_in(4) {
         end(random, fresh, memory, &mut stream);
     }
     stream
+}
+
+/// A beginning after which CMD, the CRC and the current frame are the same on every part, so that a
+/// second load often does the same.
+fn settled() -> Vec<u8> {
+    let mut stream = Stream::synced();
+    stream.command(command::RCRC).write(register::FAR, &[0]);
+    stream.into_bytes()
 }
 
 /// Leads a part out of its packets to where it waits for sync, mostly by a check; from a packet of
@@ -248,12 +267,12 @@ fn judge_many(name: &str, fixed_seed: u64, generate: Generate) -> Coverage {
 
 #[test]
 fn followed_streams() {
-    judge_many("followed", 101, followed).assert_deep(80, 10, (8, 50));
+    judge_many("followed", 101, followed).assert_deep(200, 10, (8, 50));
 }
 
 #[test]
 fn more_followed_streams() {
-    judge_many("more-followed", 102, followed).assert_deep(80, 10, (8, 50));
+    judge_many("more-followed", 102, followed).assert_deep(200, 10, (8, 50));
 }
 
 #[test]

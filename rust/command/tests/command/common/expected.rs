@@ -94,8 +94,8 @@ pub struct Expected {
     /// A check passed and no frame was stored since.
     is_checked: bool,
     whole_part: Vec<Action>,
-    /// What a second load does, after this one.
-    again: Option<Box<Expected>>,
+    /// What a second load does, after this one, and whether it leaves the same memory.
+    again: Option<(Box<Expected>, bool)>,
 }
 
 impl Expected {
@@ -106,8 +106,10 @@ impl Expected {
         let mut expected = Self::taken(device, &mut part, memory, stream);
         // Only a stream that passes is loaded once more.
         if expected.verdict(None) == "PASS" {
+            let first = memory.to_vec();
+            memory.fill(0);
             let again = Self::taken(device, &mut part, memory, stream);
-            expected.again = Some(Box::new(again));
+            expected.again = Some((Box::new(again), first == memory));
         }
         expected
     }
@@ -211,13 +213,16 @@ impl Expected {
             questions.filter(|(name, _)| is_asked(name)).collect()
         };
         if asked(holds.clone()).iter().all(|(_, holds)| *holds) {
-            holds.extend(
-                self.again
-                    .iter()
-                    .map(|again| again.stored == self.stored && again.verdict(desk) == "PASS"),
-            );
+            holds.extend(self.repeats(desk));
         }
         asked(holds)
+    }
+
+    /// Whether a second load passes and leaves the same; none where none was tried.
+    fn repeats(&self, desk: Option<Desk>) -> Option<bool> {
+        let (again, is_same_memory) = self.again.as_ref()?;
+        let is_same = again.stored == self.stored && again.whole_part == self.whole_part;
+        Some(is_same && *is_same_memory && again.verdict(desk) == "PASS")
     }
 
     pub fn verdict(&self, desk: Option<Desk>) -> &'static str {

@@ -161,7 +161,9 @@ const CHECK: Table = &[
     ),
     ("check-no-far", "check no-far.bit"),
     ("check-no-rcrc", "check no-rcrc.bit"),
+    ("check-far-first", "check far-first.bit"),
     ("check-hidden", "check hidden.bit"),
+    ("check-hidden-bytes", "check hidden-bytes.bit"),
     (
         "check-hidden-range",
         "check --part XC3S50 --frames 3:10 hidden.bit",

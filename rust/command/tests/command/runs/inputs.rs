@@ -5,8 +5,8 @@ use crate::common::streams::{
     multi_frame_write, multiple, partial, starting, stopped, turned, unchecked,
 };
 use seamwillow_tests::names::{command, register};
-use seamwillow_tests::reference::PARTS;
-use seamwillow_tests::stream::{Stream, NO_OP};
+use seamwillow_tests::reference::{LOOKUPS, PARTS};
+use seamwillow_tests::stream::{multiple_frame_write, Stream, NO_OP};
 use seamwillow_tests::worked::FRAME_3;
 
 type Files = Vec<(String, Vec<u8>)>;
@@ -97,27 +97,39 @@ fn histories() -> Named {
         ("mixed-idcode.bit", mixed_idcode.into_bytes()),
         ("no-far.bit", no_far.into_bytes()),
         ("no-rcrc.bit", no_rcrc.into_bytes()),
-        ("hidden.bit", hidden()),
+        ("far-first.bit", far_first(&[]).into_bytes()),
+        ("hidden.bit", hidden(&[1, 3, 367])),
+        ("hidden-bytes.bit", hidden(&[3, 4])),
     ]
 }
 
 /// A part that has taken a stream has DESYNC in CMD, which acts again at this one's first FAR
-/// write: it then waits for sync and meets the stream that stands in the frame data.
-fn hidden() -> Vec<u8> {
+/// write: it then waits for sync and does nothing of what follows.
+fn far_first(frames: &[u32]) -> Stream {
     let frame_words = PARTS[0].frame_words();
-    let mut data = words_of(&multiple(0));
-    data.resize(data.len().next_multiple_of(frame_words as usize), 0);
     let mut stream = Stream::synced();
     stream
         .write(register::FAR, &[FRAME_3])
         .command(command::RCRC)
         .write(register::FLR, &[frame_words - 1])
-        .write(register::IDCODE, &[PARTS[0].idcode])
-        .command(command::WCFG)
-        .padded_frames(&data, frame_words)
-        .check()
-        .command(command::DESYNC);
-    stream.into_bytes()
+        .write(register::IDCODE, &[PARTS[0].idcode]);
+    match frames {
+        [] => stream.write(register::COR, &[0]),
+        _ => stream
+            .command(command::WCFG)
+            .padded_frames(frames, frame_words),
+    };
+    stream.check().command(command::DESYNC);
+    stream
+}
+
+/// There it meets the stream that stands in the frame data, which stores a frame at the targets.
+fn hidden(targets: &[u32]) -> Vec<u8> {
+    let inner = multiple_frame_write(&LOOKUPS, 0, &frames(0, 1), targets);
+    let mut data = words_of(&inner);
+    let frame_words = PARTS[0].frame_words() as usize;
+    data.resize(data.len().next_multiple_of(frame_words), 0);
+    far_first(&data).into_bytes()
 }
 
 fn words_of(bytes: &[u8]) -> Vec<u32> {
