@@ -1,14 +1,16 @@
 //! The proved compiler against a plain Rust one: every frame of each part in one step, and steps
 //! of one frame to every place.
 
-use seamwillow_tests::layout::{number, Desk};
-use seamwillow_tests::names::{command, register, SYNC};
-use seamwillow_tests::random::Random;
-use seamwillow_tests::reference::{Lookups, PARTS};
-use seamwillow_tests::stream::{long_header, write_header};
-use seamwillow_tests::tables::Tables;
-use seamwillow_tests::timing::{best, speeds, timed};
-use seamwillow_tests::{ffi, layout, layouts};
+use seamwillow_tests::generate::layouts;
+use seamwillow_tests::generate::random::Random;
+use seamwillow_tests::harness::ffi;
+use seamwillow_tests::harness::timing::{best, speeds, timed};
+use seamwillow_tests::independent::layout;
+use seamwillow_tests::independent::layout::{number, Desk};
+use seamwillow_tests::independent::names::{command, register, SYNC};
+use seamwillow_tests::independent::reference::{Lookups, PARTS};
+use seamwillow_tests::independent::stream::{long_header, write_header};
+use seamwillow_tests::independent::tables::Tables;
 use std::hint::black_box;
 use std::mem;
 use std::time::Duration;

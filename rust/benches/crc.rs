@@ -1,10 +1,10 @@
 //! The proved CRC, called a word at a time through the C interface, against a plain table loop.
 
-use seamwillow_tests::ffi;
-use seamwillow_tests::names::register::FDRI;
-use seamwillow_tests::random::Random;
-use seamwillow_tests::tables::Tables;
-use seamwillow_tests::timing::{best, timed};
+use seamwillow_tests::generate::random::Random;
+use seamwillow_tests::harness::ffi;
+use seamwillow_tests::harness::timing::{best, timed};
+use seamwillow_tests::independent::names::register::FDRI;
+use seamwillow_tests::independent::tables::Tables;
 use std::hint::black_box;
 use std::time::Duration;
 

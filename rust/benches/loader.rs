@@ -1,13 +1,14 @@
 //! The proved loader against a plain Rust one, on a full configuration of each part.
 
-use seamwillow_tests::loader::RECORD_BYTES;
-use seamwillow_tests::names::{command, field, flag, register, SYNC};
-use seamwillow_tests::random::Random;
-use seamwillow_tests::reference::{Lookups, Part, PARTS};
-use seamwillow_tests::sides::image_word;
-use seamwillow_tests::tables::Tables;
-use seamwillow_tests::timing::{best, speeds, timed};
-use seamwillow_tests::{ffi, stream};
+use seamwillow_tests::generate::random::Random;
+use seamwillow_tests::harness::ffi;
+use seamwillow_tests::harness::sides::image_word;
+use seamwillow_tests::harness::timing::{best, speeds, timed};
+use seamwillow_tests::independent::loader::RECORD_BYTES;
+use seamwillow_tests::independent::names::{command, field, flag, register, SYNC};
+use seamwillow_tests::independent::reference::{Lookups, Part, PARTS};
+use seamwillow_tests::independent::stream;
+use seamwillow_tests::independent::tables::Tables;
 use std::hint::black_box;
 use std::time::Duration;
 

@@ -1,12 +1,12 @@
 //! The built program `build`: its streams are loaded by the independent loader and by `load50`, and
 //! its lines on standard error are compared.
 
-use seamwillow_tests::layout::{apply, number, Desk};
-use seamwillow_tests::programs::{finished, text, BUILD, FOLDER, LOAD50};
-use seamwillow_tests::random::Random;
-use seamwillow_tests::reference::PARTS;
-use seamwillow_tests::sides::INDEPENDENT;
-use seamwillow_tests::worked::FRAME_WORDS;
+use seamwillow_tests::generate::random::Random;
+use seamwillow_tests::harness::programs::{finished, text, BUILD, FOLDER, LOAD50};
+use seamwillow_tests::harness::sides::INDEPENDENT;
+use seamwillow_tests::harness::worked::FRAME_WORDS;
+use seamwillow_tests::independent::layout::{apply, number, Desk};
+use seamwillow_tests::independent::reference::PARTS;
 use std::fs::{File, OpenOptions};
 use std::path::Path;
 use std::process::{Output, Stdio};

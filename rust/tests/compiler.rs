@@ -1,11 +1,12 @@
 //! The proved compiler against the independent one: code, value and every byte of the output equal.
 
-use seamwillow_tests::compiler_sides::{compare, some_room, INDEPENDENT, PROVED};
-use seamwillow_tests::counts::Counts;
-use seamwillow_tests::layout::{self, answer, Desk};
-use seamwillow_tests::random::{self, Random};
-use seamwillow_tests::reference::PARTS;
-use seamwillow_tests::{layouts, worked_layout};
+use seamwillow_tests::generate::layouts;
+use seamwillow_tests::generate::random::{self, Random};
+use seamwillow_tests::harness::compiler_sides::{compare, some_room, INDEPENDENT, PROVED};
+use seamwillow_tests::harness::counts::Counts;
+use seamwillow_tests::harness::worked_layout;
+use seamwillow_tests::independent::layout::{self, answer, Desk};
+use seamwillow_tests::independent::reference::PARTS;
 
 const LAYOUTS: u64 = 520_000;
 /// Of those, at least so many give streams.

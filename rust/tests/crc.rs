@@ -1,7 +1,8 @@
 //! The CRC of the proved library against the paper and the reference implementation.
 
-use seamwillow_tests::random::Random;
-use seamwillow_tests::{ffi, reference};
+use seamwillow_tests::generate::random::Random;
+use seamwillow_tests::harness::ffi;
+use seamwillow_tests::independent::reference;
 
 /// The address of the CRC register.
 const CRC: u32 = 0;

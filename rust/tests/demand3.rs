@@ -1,14 +1,14 @@
 //! Demand 3 by running: streams of the proved compiler in both loaders, and the proved library's
 //! reconfiguration, on arbitrary records that hunt.
 
-use seamwillow_tests::compiler_sides::{compare_calls, some_room, Call, PROVED};
-use seamwillow_tests::counts::Counts;
-use seamwillow_tests::demand3::{check_generated, check_largest, hunting, Case};
-use seamwillow_tests::layout::{self, Desk};
-use seamwillow_tests::names::{field, phase};
-use seamwillow_tests::random::{self, Random};
-use seamwillow_tests::sides::{self, compare, State};
-use seamwillow_tests::{layouts, memories, records};
+use seamwillow_tests::generate::random::{self, Random};
+use seamwillow_tests::generate::{layouts, memories, records};
+use seamwillow_tests::harness::compiler_sides::{compare_calls, some_room, Call, PROVED};
+use seamwillow_tests::harness::counts::Counts;
+use seamwillow_tests::harness::demand3::{check_generated, check_largest, hunting, Case};
+use seamwillow_tests::harness::sides::{self, compare, State};
+use seamwillow_tests::independent::layout::{self, Desk};
+use seamwillow_tests::independent::names::{field, phase};
 
 const LAYOUTS: u64 = 60_000;
 const PREFIXES: u64 = 40_000;

@@ -1,10 +1,12 @@
 //! What the scope paper (01) says of a load beside its stops, worked by hand on the XC3S50.
 
-use seamwillow_tests::names::{command, field, flag, phase, register, SYNC};
-use seamwillow_tests::sides::{Side, State};
-use seamwillow_tests::stream::{write_header, Stream};
-use seamwillow_tests::worked::{at_address, frames, in_hand_at, loaded};
-use seamwillow_tests::worked::{FRAMES, FRAME_0, FRAME_1, FRAME_3, FRAME_367, NO_FRAME, SIDES};
+use seamwillow_tests::harness::sides::{Side, State};
+use seamwillow_tests::harness::worked::{at_address, frames, in_hand_at, loaded};
+use seamwillow_tests::harness::worked::{
+    FRAMES, FRAME_0, FRAME_1, FRAME_3, FRAME_367, NO_FRAME, SIDES,
+};
+use seamwillow_tests::independent::names::{command, field, flag, phase, register, SYNC};
+use seamwillow_tests::independent::stream::{write_header, Stream};
 
 /// Asserts that the frame has only bytes of the value.
 fn assert_frame(state: &State, number: u32, value: u8) {

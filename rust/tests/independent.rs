@@ -1,11 +1,11 @@
 //! Demand 3 on the independent side alone, without the library that is held against it: compiler,
 //! loader and reference machine agree.
 
-use seamwillow_tests::compiler_sides::INDEPENDENT;
-use seamwillow_tests::demand3::{check_generated, check_largest, Case};
-use seamwillow_tests::random::{self, Random};
-use seamwillow_tests::sides::{self, assert_same, cut};
-use seamwillow_tests::worked_layout;
+use seamwillow_tests::generate::random::{self, Random};
+use seamwillow_tests::harness::compiler_sides::INDEPENDENT;
+use seamwillow_tests::harness::demand3::{check_generated, check_largest, Case};
+use seamwillow_tests::harness::sides::{self, assert_same, cut};
+use seamwillow_tests::harness::worked_layout;
 
 const LAYOUTS: u64 = 40_000;
 

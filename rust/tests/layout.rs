@@ -1,12 +1,12 @@
 //! The proved layout reader and reference machine against the independent ones: code, value and
 //! memory all equal.
 
-use seamwillow_tests::counts::Counts;
-use seamwillow_tests::layout::{answer, number, Cause, Desk, Refusal, MOST_STEPS};
-use seamwillow_tests::layout_sides::Comparer;
-use seamwillow_tests::random::{self, Random};
-use seamwillow_tests::reference::PARTS;
-use seamwillow_tests::{layouts, memories};
+use seamwillow_tests::generate::random::{self, Random};
+use seamwillow_tests::generate::{layouts, memories};
+use seamwillow_tests::harness::counts::Counts;
+use seamwillow_tests::harness::layout_sides::Comparer;
+use seamwillow_tests::independent::layout::{answer, number, Cause, Desk, Refusal, MOST_STEPS};
+use seamwillow_tests::independent::reference::PARTS;
 
 const LAYOUTS: u64 = 520_000;
 

@@ -1,12 +1,12 @@
 //! The proved loader against the independent one: record, memory, stop and taken all equal.
 
-use seamwillow_tests::counts::Counts;
-use seamwillow_tests::loader::{Device, RECORD_BYTES};
-use seamwillow_tests::names::{field, flag};
-use seamwillow_tests::random::{self, Random};
-use seamwillow_tests::reference::{Lookups, PARTS};
-use seamwillow_tests::sides::{assert_same, compare, End, State, INDEPENDENT, PROVED};
-use seamwillow_tests::{guided, memories, records};
+use seamwillow_tests::generate::random::{self, Random};
+use seamwillow_tests::generate::{guided, memories, records};
+use seamwillow_tests::harness::counts::Counts;
+use seamwillow_tests::harness::sides::{assert_same, compare, End, State, INDEPENDENT, PROVED};
+use seamwillow_tests::independent::loader::{Device, RECORD_BYTES};
+use seamwillow_tests::independent::names::{field, flag};
+use seamwillow_tests::independent::reference::{Lookups, PARTS};
 
 const FRESH_STREAMS: u64 = 110_000;
 const OTHER_STREAMS: u64 = 110_000;

@@ -1,10 +1,11 @@
 //! Streams in the shape that the maker's note (document 001) prints, on both loaders.
 
-use seamwillow_tests::names::{field, flag, phase, register};
-use seamwillow_tests::random::{self, Random};
-use seamwillow_tests::reference::{Lookups, PARTS};
-use seamwillow_tests::sides::{compare, INDEPENDENT, PROVED};
-use seamwillow_tests::{guided, stream};
+use seamwillow_tests::generate::guided;
+use seamwillow_tests::generate::random::{self, Random};
+use seamwillow_tests::harness::sides::{compare, INDEPENDENT, PROVED};
+use seamwillow_tests::independent::names::{field, flag, phase, register};
+use seamwillow_tests::independent::reference::{Lookups, PARTS};
+use seamwillow_tests::independent::stream;
 
 /// 001's Table 7, "Total # of Bits", at the device numbers.
 const TOTAL_BITS: [usize; 8] = [

@@ -1,8 +1,8 @@
 //! The frame lookups of the proved library against the paper and the reference implementation.
 
-use seamwillow_tests::ffi::{self, Figures};
-use seamwillow_tests::random::Random;
-use seamwillow_tests::reference::{address_fields, Lookups, PARTS};
+use seamwillow_tests::generate::random::Random;
+use seamwillow_tests::harness::ffi::{self, Figures};
+use seamwillow_tests::independent::reference::{address_fields, Lookups, PARTS};
 
 /// Frame numbers of the XC3S400 with their addresses, worked by hand in the paper.
 const XC3S400_EXAMPLES: [(u32, u32); 10] = [

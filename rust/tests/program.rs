@@ -1,10 +1,12 @@
 //! The built program `load50` on the stored runs; `runs/README.md` tells how each was worked out.
 
-use seamwillow_tests::names::{command, field, flag};
-use seamwillow_tests::programs::{finished, text, FOLDER, LOAD50};
-use seamwillow_tests::sides::End;
-use seamwillow_tests::stream::{full_configuration, Stream};
-use seamwillow_tests::worked::{at_address, frames, FRAMES, FRAME_367, FRAME_WORDS, SIDES};
+use seamwillow_tests::harness::programs::{finished, text, FOLDER, LOAD50};
+use seamwillow_tests::harness::sides::End;
+use seamwillow_tests::harness::worked::{
+    at_address, frames, FRAMES, FRAME_367, FRAME_WORDS, SIDES,
+};
+use seamwillow_tests::independent::names::{command, field, flag};
+use seamwillow_tests::independent::stream::{full_configuration, Stream};
 use std::fs::{self, File};
 use std::path::{Path, PathBuf};
 use std::process::Output;

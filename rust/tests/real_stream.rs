@@ -5,9 +5,10 @@
 //! paper (01) allows and writes a register of the paper's table, so it is walked by the paper's
 //! rules alone. The part's IDCODE and its frame length of 97 words are the Spartan-3E's own.
 
-use seamwillow_tests::names::command::{DESYNC, RCRC};
-use seamwillow_tests::names::register::{CMD, CRC, FAR, FDRI, FLR, LOUT};
-use seamwillow_tests::{ffi, reference};
+use seamwillow_tests::harness::ffi;
+use seamwillow_tests::independent::names::command::{DESYNC, RCRC};
+use seamwillow_tests::independent::names::register::{CMD, CRC, FAR, FDRI, FLR, LOUT};
+use seamwillow_tests::independent::reference;
 use std::{env, fs};
 
 const VARIABLE: &str = "SEAMWILLOW_REAL_STREAM";

@@ -1,8 +1,8 @@
 //! What the scope paper (01) says of layouts, worked by hand on the XC3S50: its examples, each
 //! refusal with its offset, and what the steps do.
 
-use seamwillow_tests::layout::{number, Desk};
-use seamwillow_tests::layout_sides::{INDEPENDENT, PROVED};
+use seamwillow_tests::harness::layout_sides::{INDEPENDENT, PROVED};
+use seamwillow_tests::independent::layout::{number, Desk};
 
 const FRAME_BYTES: usize = 4 * 37;
 const MEMORY_BYTES: usize = FRAME_BYTES * 368;

@@ -1,11 +1,11 @@
 //! Each stop of the scope paper (01), reached by hand-made words on the XC3S50.
 
-use seamwillow_tests::names::{command, field, phase, register, SYNC};
-use seamwillow_tests::reference;
-use seamwillow_tests::sides::{assert_same, End, Side, State};
-use seamwillow_tests::stream::{long_header, write_header, Stream, NO_OP};
-use seamwillow_tests::worked::{at_address, frames, in_hand_at, loaded};
-use seamwillow_tests::worked::{FRAME_0, FRAME_3, FRAME_367, NO_FRAME, SIDES};
+use seamwillow_tests::harness::sides::{assert_same, End, Side, State};
+use seamwillow_tests::harness::worked::{at_address, frames, in_hand_at, loaded};
+use seamwillow_tests::harness::worked::{FRAME_0, FRAME_3, FRAME_367, NO_FRAME, SIDES};
+use seamwillow_tests::independent::names::{command, field, phase, register, SYNC};
+use seamwillow_tests::independent::reference;
+use seamwillow_tests::independent::stream::{long_header, write_header, Stream, NO_OP};
 
 /// A word that stops the part, after words that do not.
 struct BadWord {

@@ -8,8 +8,8 @@ use crate::common::streams::{
     multiple, partial, turned,
 };
 use crate::common::{Scratch, Told};
-use seamwillow_tests::layout::Desk;
-use seamwillow_tests::reference::PARTS;
+use seamwillow_tests::independent::layout::Desk;
+use seamwillow_tests::independent::reference::PARTS;
 
 /// Files that are given to one run.
 const IN_A_RUN: usize = 100;

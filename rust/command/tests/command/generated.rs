@@ -4,15 +4,15 @@
 use crate::common::expected::{memories, stored_in_memories, Expected, QUESTIONS};
 use crate::common::json::Value;
 use crate::common::{Scratch, Told};
-use seamwillow_tests::compiler_sides::INDEPENDENT;
-use seamwillow_tests::counts::Counts;
-use seamwillow_tests::layout::Desk;
-use seamwillow_tests::loader::{Device, Phase};
-use seamwillow_tests::names::{command, register};
-use seamwillow_tests::random::{self, Random};
-use seamwillow_tests::reference::{self, LOOKUPS, PARTS};
-use seamwillow_tests::stream::{write_header, Stream};
-use seamwillow_tests::{guided, layouts};
+use seamwillow_tests::generate::random::{self, Random};
+use seamwillow_tests::generate::{guided, layouts};
+use seamwillow_tests::harness::compiler_sides::INDEPENDENT;
+use seamwillow_tests::harness::counts::Counts;
+use seamwillow_tests::independent::layout::Desk;
+use seamwillow_tests::independent::loader::{Device, Phase};
+use seamwillow_tests::independent::names::{command, register};
+use seamwillow_tests::independent::reference::{self, LOOKUPS, PARTS};
+use seamwillow_tests::independent::stream::{write_header, Stream};
 
 /// Streams of each of the four tests on many; they are judged so many in a run.
 const STREAMS: usize = 5000;

@@ -2,13 +2,13 @@
 //! layout reader and loader have it.
 
 use crate::common::{Scratch, Told};
-use seamwillow_tests::compiler_sides::INDEPENDENT;
-use seamwillow_tests::counts::Counts;
-use seamwillow_tests::layout::{self, answer, Desk};
-use seamwillow_tests::loader::{Device, Phase};
-use seamwillow_tests::random::{self, Random};
-use seamwillow_tests::reference::PARTS;
-use seamwillow_tests::{guided, layouts};
+use seamwillow_tests::generate::random::{self, Random};
+use seamwillow_tests::generate::{guided, layouts};
+use seamwillow_tests::harness::compiler_sides::INDEPENDENT;
+use seamwillow_tests::harness::counts::Counts;
+use seamwillow_tests::independent::layout::{self, answer, Desk};
+use seamwillow_tests::independent::loader::{Device, Phase};
+use seamwillow_tests::independent::reference::PARTS;
 use std::fs;
 
 const BUILDS: u64 = 600;

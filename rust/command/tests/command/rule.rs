@@ -14,9 +14,9 @@ use crate::common::streams::{partial, stopped};
 use crate::common::{Scratch, Told};
 use forbidden::{Found, A_LETTER, BYTES};
 use seamwillow_library::{self as library, Record};
-use seamwillow_tests::names::register;
-use seamwillow_tests::random::{self, Random};
-use seamwillow_tests::reference::{Part, PARTS};
+use seamwillow_tests::generate::random::{self, Random};
+use seamwillow_tests::independent::names::register;
+use seamwillow_tests::independent::reference::{Part, PARTS};
 use std::fs;
 use std::path::{Path, PathBuf};
 

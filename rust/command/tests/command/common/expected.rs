@@ -1,10 +1,10 @@
 //! What the independent loader says of a stream, and how `check --json` must then answer.
 
 use super::json::Value;
-use seamwillow_tests::layout::Desk;
-use seamwillow_tests::loader::{Device, Phase};
-use seamwillow_tests::names::{command, register};
-use seamwillow_tests::reference::{self, PARTS};
+use seamwillow_tests::independent::layout::Desk;
+use seamwillow_tests::independent::loader::{Device, Phase};
+use seamwillow_tests::independent::names::{command, register};
+use seamwillow_tests::independent::reference::{self, PARTS};
 use std::collections::BTreeSet;
 
 /// Commands that touch frames alone; 0 is NULL and 4 is RCFG.

@@ -1,10 +1,12 @@
 //! Streams and layouts, built by the tests' own writer, and the same in other clothes.
 
-use seamwillow_tests::layout::number;
-use seamwillow_tests::names::{command, register};
-use seamwillow_tests::reference::{LOOKUPS, PARTS};
-use seamwillow_tests::stream::{full_configuration, multiple_frame_write, write_header, Stream};
-use seamwillow_tests::worked::{FRAME_3, NO_FRAME};
+use seamwillow_tests::harness::worked::{FRAME_3, NO_FRAME};
+use seamwillow_tests::independent::layout::number;
+use seamwillow_tests::independent::names::{command, register};
+use seamwillow_tests::independent::reference::{LOOKUPS, PARTS};
+use seamwillow_tests::independent::stream::{
+    full_configuration, multiple_frame_write, write_header, Stream,
+};
 
 /// Words of frames for a part; frame `n` has only bytes of value `n + 1`.
 pub fn frames(device: u32, count: u8) -> Vec<u32> {

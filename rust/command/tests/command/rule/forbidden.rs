@@ -1,7 +1,7 @@
 //! The tokens by which a source could decode what the library decodes: they need a reason.
 
 use super::tokens::{self, Kind, Token};
-use seamwillow_tests::reference::PARTS;
+use seamwillow_tests::independent::reference::PARTS;
 
 /// Larger numbers need a reason: 01's figures are larger, but for small counts and bit places.
 const MOST: u64 = 16;

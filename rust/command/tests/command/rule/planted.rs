@@ -84,7 +84,10 @@ const BAD: [(&str, &str); 74] = [
     ("let word = word.swap_bytes();", "swap_bytes"),
     ("unsafe { work() }", "unsafe"),
     ("extern \"C\" {}", "extern"),
-    ("use seamwillow_tests::loader;", "seamwillow_tests"),
+    (
+        "use seamwillow_tests::independent::loader;",
+        "seamwillow_tests",
+    ),
 ];
 
 /// Sources that keep the rule.

@@ -1,6 +1,6 @@
 //! The stored runs: their names and command lines.
 
-use seamwillow_tests::reference::PARTS;
+use seamwillow_tests::independent::reference::PARTS;
 
 pub struct Case {
     pub name: String,

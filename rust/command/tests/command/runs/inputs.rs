@@ -4,10 +4,10 @@ use crate::common::streams::{
     begun, behind_bit_header, bits_reversed, frame_write, frames, full, gzip, hex_text, layout,
     multi_frame_write, multiple, partial, starting, stopped, turned, unchecked,
 };
-use seamwillow_tests::names::{command, register};
-use seamwillow_tests::reference::{LOOKUPS, PARTS};
-use seamwillow_tests::stream::{multiple_frame_write, Stream, NO_OP};
-use seamwillow_tests::worked::FRAME_3;
+use seamwillow_tests::harness::worked::FRAME_3;
+use seamwillow_tests::independent::names::{command, register};
+use seamwillow_tests::independent::reference::{LOOKUPS, PARTS};
+use seamwillow_tests::independent::stream::{multiple_frame_write, Stream, NO_OP};
 
 type Files = Vec<(String, Vec<u8>)>;
 

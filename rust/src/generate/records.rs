@@ -1,8 +1,8 @@
 //! Random record images: of consistent records in every phase, and damaged ones.
 
-use crate::names::{command, flag, register};
-use crate::random::Random;
-use crate::reference::{Part, PARTS};
+use crate::generate::random::Random;
+use crate::independent::names::{command, flag, register};
+use crate::independent::reference::{Part, PARTS};
 
 const MOST_WORDS: u32 = 134_217_727;
 const NONE: u32 = 0xFFFF_FFFF;

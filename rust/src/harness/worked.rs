@@ -1,8 +1,8 @@
 //! Streams for the XC3S50 that the hand-worked tests share.
 
-use crate::names::{command, register};
-use crate::sides::{Side, State, INDEPENDENT, PROVED};
-use crate::stream::Stream;
+use crate::harness::sides::{Side, State, INDEPENDENT, PROVED};
+use crate::independent::names::{command, register};
+use crate::independent::stream::Stream;
 
 /// Each side is held against the paper by itself, the independent loader first.
 pub const SIDES: [Side; 2] = [INDEPENDENT, PROVED];

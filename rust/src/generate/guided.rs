@@ -1,11 +1,11 @@
 //! Random streams that follow the part: the record that the independent loader has reached chooses
 //! each next word, so that most streams go deep.
 
-use crate::loader::{Device, Phase};
-use crate::names::{command, register, SYNC};
-use crate::random::Random;
-use crate::reference::{self, Lookups};
-use crate::stream::{long_header, write_header, NO_OP};
+use crate::generate::random::Random;
+use crate::independent::loader::{Device, Phase};
+use crate::independent::names::{command, register, SYNC};
+use crate::independent::reference::{self, Lookups};
+use crate::independent::stream::{long_header, write_header, NO_OP};
 
 /// One word in so many is damaged; 0 is for none.
 const DAMAGE: [u32; 6] = [0, 0, 0, 200, 60, 12];

@@ -3,7 +3,7 @@
 use super::number;
 use super::refusal::{Cause, Field, Refusal};
 use super::{Desk, Step, MOST_STEPS};
-use crate::reference::Part;
+use crate::independent::reference::Part;
 
 const EDITION: u64 = 1;
 

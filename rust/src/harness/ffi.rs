@@ -1,6 +1,6 @@
 //! The proved library, asked by the tests: a desk stands in place of its numbers.
 
-use crate::layout::Desk;
+use crate::independent::layout::Desk;
 use seamwillow_library as library;
 
 pub use library::{address_fields, crc, frame_address, frame_number, load, part, power_on};

@@ -1,9 +1,10 @@
 //! The two loaders over record images, and what tells their ends apart.
 
-use crate::loader::{self, RECORD_BYTES};
-use crate::names::field;
-use crate::reference::PARTS;
-use crate::{ffi, random::Random};
+use crate::generate::random::Random;
+use crate::harness::ffi;
+use crate::independent::loader::{self, RECORD_BYTES};
+use crate::independent::names::field;
+use crate::independent::reference::PARTS;
 
 type PowerOn = fn(u32, &mut [u8], &mut [u8]) -> u32;
 type Load = fn(&mut [u8], &mut [u8], &[u8]) -> (u32, u64);

@@ -1,8 +1,8 @@
 //! The two layout readers with their machines, and what tells their answers apart.
 
-use crate::ffi;
-use crate::layout::{self, answer, Desk, Refusal};
-use crate::sides::hex;
+use crate::harness::ffi;
+use crate::harness::sides::hex;
+use crate::independent::layout::{self, answer, Desk, Refusal};
 
 type Check = fn(Desk, &[u8]) -> (u32, u64);
 type Apply = fn(Desk, &[u8], &mut [u8]) -> (u32, u64);

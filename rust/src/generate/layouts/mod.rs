@@ -2,9 +2,9 @@
 
 mod damage;
 
-use crate::layout::{number, Desk, Field, MOST_STEPS};
-use crate::random::Random;
-use crate::reference::{Part, PARTS};
+use crate::generate::random::Random;
+use crate::independent::layout::{number, Desk, Field, MOST_STEPS};
+use crate::independent::reference::{Part, PARTS};
 
 /// What a layout is put together from.
 #[derive(Clone)]

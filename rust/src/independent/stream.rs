@@ -1,7 +1,7 @@
 //! Streams as the maker's tools write them (document 001, Tables 9 to 11), with right CRC words.
 
-use crate::names::{command, register, SYNC};
-use crate::reference::{self, Lookups, PARTS};
+use crate::independent::names::{command, register, SYNC};
+use crate::independent::reference::{self, Lookups, PARTS};
 
 const DUMMY: u32 = 0xFFFF_FFFF;
 pub const NO_OP: u32 = 0x2000_0000;

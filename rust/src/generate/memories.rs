@@ -1,7 +1,7 @@
 //! Frame memories of right and of wrong lengths.
 
-use crate::random::Random;
-use crate::reference::PARTS;
+use crate::generate::random::Random;
+use crate::independent::reference::PARTS;
 
 fn lengths() -> impl Iterator<Item = usize> {
     PARTS.iter().map(|part| part.memory_bytes())

@@ -1,9 +1,9 @@
 //! What can be wrong with a layout, or with the desk that it is put to.
 
 use super::{Draft, Piece};
-use crate::guided;
-use crate::layout::number::{self, BadForm};
-use crate::layout::Field;
+use crate::generate::guided;
+use crate::independent::layout::number::{self, BadForm};
+use crate::independent::layout::Field;
 
 impl Draft<'_> {
     pub fn damage(&mut self) {

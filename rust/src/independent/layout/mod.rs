@@ -10,7 +10,7 @@ mod reader;
 mod refusal;
 
 use self::reader::Reader;
-use crate::reference::{Part, PARTS};
+use crate::independent::reference::{Part, PARTS};
 
 pub use self::refusal::{Cause, Field, Refusal};
 

@@ -1,11 +1,11 @@
 //! A compiler written from the scope paper (01) alone, to hold the proved library against: the
 //! layout's steps through the stream writer of the tests, which feeds the CRC a bit at a time.
 
-use crate::layout::{self, answer, Desk, Layout, Step};
-use crate::loader::{self, Device, Phase, BAD_MEMORY, BAD_RECORD};
-use crate::names::{command, register};
-use crate::reference::LOOKUPS;
-use crate::stream::Stream;
+use crate::independent::layout::{self, answer, Desk, Layout, Step};
+use crate::independent::loader::{self, Device, Phase, BAD_MEMORY, BAD_RECORD};
+use crate::independent::names::{command, register};
+use crate::independent::reference::LOOKUPS;
+use crate::independent::stream::Stream;
 
 /// A record that does not wait for sync; not a number of the paper but of the C interface.
 const NOT_HUNTING: u32 = 24;

@@ -1,14 +1,14 @@
 //! Demand 3 on single cases: what a compiled stream leaves of a record that hunts and of a memory.
 
-use crate::compiler_sides::CompilerSide;
-use crate::counts::Counts;
-use crate::layout::{self, Desk};
-use crate::loader::Device;
-use crate::names::{field, phase, register};
-use crate::random::Random;
-use crate::reference::PARTS;
-use crate::sides::{End, State};
-use crate::{layouts, memories, records};
+use crate::generate::random::Random;
+use crate::generate::{layouts, memories, records};
+use crate::harness::compiler_sides::CompilerSide;
+use crate::harness::counts::Counts;
+use crate::harness::sides::{End, State};
+use crate::independent::layout::{self, Desk};
+use crate::independent::loader::Device;
+use crate::independent::names::{field, phase, register};
+use crate::independent::reference::PARTS;
 
 /// A layout that the desk accepts, and the record and the memory before its stream is loaded.
 pub struct Case<'a> {

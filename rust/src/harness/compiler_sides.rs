@@ -1,9 +1,10 @@
 //! The two compilers, and what tells their answers and their outputs apart.
 
-use crate::layout::{self, Desk, Refusal};
-use crate::random::Random;
-use crate::sides::{assert_same, hex, End, State};
-use crate::{compiler, ffi};
+use crate::generate::random::Random;
+use crate::harness::ffi;
+use crate::harness::sides::{assert_same, hex, End, State};
+use crate::independent::compiler;
+use crate::independent::layout::{self, Desk, Refusal};
 
 type Compile = fn(Desk, &[u8], &mut [u8]) -> (u32, u64);
 type Reconfigure = fn(&mut [u8], &mut [u8], [u32; 2], &[u8], &mut [u8]) -> (u32, u64);

@@ -1,6 +1,6 @@
 //! Headers of packets, and the stops.
 
-use crate::names::register;
+use crate::independent::names::register;
 
 /// The paper's stops at their numbers.
 #[derive(Clone, Copy, PartialEq, Eq, Debug)]

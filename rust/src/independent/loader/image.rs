@@ -1,7 +1,7 @@
 //! The record as an image of 237 words, and the loader over images as the C interface has it.
 
 use super::{packet, Device, Flags, Phase, BAD_RECORD, REGISTERS};
-use crate::names::register;
+use crate::independent::names::register;
 use std::array;
 
 /// The length of a record's image.

@@ -1,11 +1,11 @@
 //! A layout for the XC3S50 with a step of each kind, its stream worked by hand.
 
-use crate::compiler_sides::CompilerSide;
-use crate::layout::Desk;
-use crate::names::command::{DESYNC, MFWR, RCRC, WCFG};
-use crate::names::SYNC;
-use crate::sides::INDEPENDENT;
-use crate::worked::{frames, FRAMES, FRAME_1, FRAME_3, FRAME_367, FRAME_WORDS};
+use crate::harness::compiler_sides::CompilerSide;
+use crate::harness::sides::INDEPENDENT;
+use crate::harness::worked::{frames, FRAMES, FRAME_1, FRAME_3, FRAME_367, FRAME_WORDS};
+use crate::independent::layout::Desk;
+use crate::independent::names::command::{DESYNC, MFWR, RCRC, WCFG};
+use crate::independent::names::SYNC;
 
 const WRITE_CMD: u32 = 0x3000_8001;
 const WRITE_FAR: u32 = 0x3000_2001;

@@ -8,8 +8,8 @@ mod image;
 mod packet;
 
 use self::packet::{Packet, Stop};
-use crate::names::{command, register, SYNC};
-use crate::reference::{self, Part, LOOKUPS, PARTS};
+use crate::independent::names::{command, register, SYNC};
+use crate::independent::reference::{self, Part, LOOKUPS, PARTS};
 
 pub use self::image::{load, power_on, RECORD_BYTES};
 

@@ -1,0 +1,12 @@
+//! The proved library and its programs as the tests ask them, and the two sides held against each other.
+
+pub mod compiler_sides;
+pub mod counts;
+pub mod demand3;
+pub mod ffi;
+pub mod layout_sides;
+pub mod programs;
+pub mod sides;
+pub mod timing;
+pub mod worked;
+pub mod worked_layout;
