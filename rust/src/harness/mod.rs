@@ -6,6 +6,7 @@ pub mod demand3;
 pub mod ffi;
 pub mod layout_sides;
 pub mod programs;
+pub mod repository;
 pub mod sides;
 pub mod timing;
 pub mod worked;
