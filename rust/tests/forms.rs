@@ -1,7 +1,6 @@
 //! `docs/FORMS.md` has every line of 01's list of forms, and each place that it names holds the line that it quotes.
 
-use std::fs;
-use std::path::Path;
+use seamwillow_tests::harness::repository::read;
 
 /// 01, "Forms to use in the code": what each line of the list quotes.
 const FORMS: [&str; 8] = [
@@ -15,29 +14,23 @@ const FORMS: [&str; 8] = [
     "A layout reader holds the lent layout and its place in it",
 ];
 
-/// A row of a table: a file and a line in it, counted from 1, and the text there.
-struct Place<'a> {
-    file: &'a str,
-    line: usize,
-    text: &'a str,
+/// The file that a row of a table names, and the line that it quotes.
+fn place(row: &str) -> Option<(&str, &str)> {
+    let row = row.strip_prefix("| `")?.strip_suffix("` |")?;
+    row.split_once("` | `")
 }
 
-fn place(row: &str) -> Option<Place<'_>> {
-    let (place, text) = row
-        .strip_prefix("| `")?
-        .strip_suffix("` |")?
-        .split_once("` | `")?;
-    let (file, line) = place.rsplit_once(':')?;
-    Some(Place {
-        file,
-        line: line.parse().ok()?,
-        text,
-    })
-}
-
-fn read(file: &str) -> String {
-    let path = Path::new(env!("CARGO_MANIFEST_DIR")).join("..").join(file);
-    fs::read_to_string(&path).unwrap_or_else(|error| panic!("{file}: {error}"))
+/// Whether a row names a file and quotes a line that stands in it once.
+fn holds(row: &str) -> Result<(), String> {
+    let (file, text) = place(row).ok_or_else(|| format!("a row that names no place: {row}"))?;
+    let found = read(file)
+        .lines()
+        .filter(|line| line.trim() == text)
+        .count();
+    match found {
+        1 => Ok(()),
+        _ => Err(format!("{file} has this line {found} times: {text}")),
+    }
 }
 
 fn rows(text: &str) -> impl Iterator<Item = &str> {
@@ -61,9 +54,20 @@ fn every_form_has_a_place_or_its_request() {
 #[test]
 fn every_place_holds_its_line() {
     for row in rows(&read("docs/FORMS.md")) {
-        let place = place(row).unwrap_or_else(|| panic!("a row that names no place: {row}"));
-        let file = read(place.file);
-        let line = file.lines().nth(place.line - 1).map(str::trim);
-        assert_eq!(line, Some(place.text), "{}:{}", place.file, place.line);
+        assert_eq!(holds(row), Ok(()));
+    }
+}
+
+#[test]
+fn other_rows_are_refused() {
+    assert_eq!(holds("| `LICENSE` | `MIT License` |"), Ok(()));
+    for (row, why) in [
+        ("| `LICENSE` | `MIT Licence` |", "0 times"),
+        ("| `LICENSE` | `MIT` |", "0 times"),
+        ("| `LICENSE` | `` |", "4 times"),
+        ("| `LICENSE` | MIT License |", "no place"),
+    ] {
+        let refusal = holds(row).expect_err(row);
+        assert!(refusal.contains(why), "{refusal}");
     }
 }
