@@ -99,7 +99,8 @@ fn every_name_is_found() {
     let pages = files("docs/trace", ".md");
     assert!(!pages.is_empty());
     for page in pages {
-        assert_eq!(unresolved(&read(&page)).join("\n"), "", "{page}");
+        let unresolved = unresolved(&read(&page)).join("\n");
+        assert!(unresolved.is_empty(), "{page}:\n{unresolved}");
     }
 }
 
