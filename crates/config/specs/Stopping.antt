@@ -57,9 +57,13 @@ Running p = running p ≡ true
 
 -- ---- phases that go on
 
+pub ended-runs : (r : Register) → running (ended r) ≡ true
+unfolding ended
+ended-runs r = either Running (isFdri r) (λ h. refl) (λ h. refl)
+
 pub onward-runs : (r : Register) (left filled : ℕ) → running (onward r left filled) ≡ true
-unfolding onward ended
-onward-runs r left filled = either Running (leb left 1) (λ h. either Running (isFdri r) (λ h. refl) (λ h. refl)) (λ h. refl)
+unfolding onward
+onward-runs r left filled = either Running (leb left 1) (λ h. ended-runs r) (λ h. refl)
 
 pub after-runs : (k : ℕ) (p : Phase) → running p ≡ true → running (phaseAfter k p) ≡ true
 unfolding phaseAfter
@@ -114,12 +118,12 @@ module _ (c : Control) (w : ℕ) where
   fdri-stops : (left filled : ℕ) → Stopping (fdriWord left filled c w)
   unfolding fdriWord
   fdri-stops left filled =
-      either Stopping (leb left 1) (λ h. goes _ _ _ refl)
+      either Stopping (leb left 1) (λ h. goes _ _ _ (ended-runs Register.Fdri))
       (λ h. either Stopping (ltb (filled + 1) (lengthAt (c .device))) (λ h. goes _ _ _ refl) (λ h. stored-stops (c .current) left filled))
 
   second-stops : (n : Current) → Stopping (mfwrStored n c w)
   unfolding mfwrStored
-  second-stops (Current.Frame n) = goes _ _ _ refl
+  second-stops (Current.Frame n) = goes _ _ _ (ended-runs Register.Mfwr)
   second-stops Current.NoFrame = stops Stop.NoCurrentFrame
 
   pub data-stops : (r : Register) (left filled : ℕ) → Stopping (dataWord r left filled c w)

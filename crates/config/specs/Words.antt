@@ -26,7 +26,8 @@ use Rattle.config.specs.declared.Fed.{Fed}
 
 -- ---- the packet goes on
 
--- 01, "FDRI": "The word after the data of a nonzero count is the auto CRC word"; after any other packet comes a header
+-- the phase after a packet's last word; 01, "FDRI": "The word after the data of a nonzero count is the auto CRC word"; after any
+-- other packet comes a header
 unfoldable pub ended : Register → Phase
 ended r = cond (isFdri r) Phase.Crc (Phase.Header Open.Closed)
 
@@ -74,13 +75,13 @@ frameStored Current.NoFrame left filled c w = stopped Stop.NoCurrentFrame c
 -- power-on a frame is in hand."
 unfoldable pub fdriWord : ℕ → ℕ → Control → ℕ → Fed
 fdriWord left filled c w =
-    cond (leb left 1) (fed Phase.Crc (withFlags (withBufferValid (c .flags)) (put Register.Fdri w c)) (Event.Keep filled w))
+    cond (leb left 1) (fed (ended Register.Fdri) (withFlags (withBufferValid (c .flags)) (put Register.Fdri w c)) (Event.Keep filled w))
     (cond (ltb (filled + 1) (lengthAt (c .device))) (fed (Phase.Data Register.Fdri (left - 1) (filled + 1)) (put Register.Fdri w c) (Event.Keep filled w))
     (frameStored (c .current) left filled c w))
 
 -- 01, "MFWR": "at the second word the frame in hand is stored at the current frame, which doesn't move"
 unfoldable pub mfwrStored : Current → Control → ℕ → Fed
-mfwrStored (Current.Frame n) c w = fed (Phase.Header Open.Closed) (put Register.Mfwr w c) (Event.Store n)
+mfwrStored (Current.Frame n) c w = fed (ended Register.Mfwr) (put Register.Mfwr w c) (Event.Store n)
 mfwrStored Current.NoFrame c w = stopped Stop.NoCurrentFrame c
 
 unfoldable pub mfwrWord : ℕ → ℕ → Control → ℕ → Fed

@@ -21,7 +21,7 @@ use registers::address_of;
 ghost use mathlib.Core.Path.{_≡_};
 ghost use Prim.Native.Nat.{_<_};
 ghost use Rattle.config.specs.Control.{withRegisters, withFlags, withCurrent};
-ghost use Rattle.config.specs.Words.{onward, put, checked, crcWord, farWord, cmdWord, stepped, frameStored, fdriWord, mfwrStored, mfwrWord, idcodeWord, flrWord, dataWord};
+ghost use Rattle.config.specs.Words.{ended, onward, put, checked, crcWord, farWord, cmdWord, stepped, frameStored, fdriWord, mfwrStored, mfwrWord, idcodeWord, flrWord, dataWord};
 
 fn with_registers(registers: Registers, control: Control) -> Control
     ensures { λ r. ⌜ r ≡ withRegisters registers control ⌝ }
@@ -68,6 +68,16 @@ fn with_current(current: Current, control: Control) -> Control
     }
 }
 
+// The phase after a packet's last word.
+fn ended(register: Register) -> Phase
+    ensures { λ r. ⌜ r ≡ ended register ⌝ }
+{
+    if address_of(register) == 2 {
+        return Phase::Crc;
+    }
+    Phase::Header(Open::Closed)
+}
+
 // The phase after one of the words left.
 fn onward(register: Register, left: u32, filled: u32) -> Phase
     ensures { λ r. ⌜ r ≡ onward register left filled ⌝ }
@@ -79,10 +89,7 @@ fn onward(register: Register, left: u32, filled: u32) -> Phase
             filled: filled,
         };
     }
-    if address_of(register) == 2 {
-        return Phase::Crc;
-    }
-    Phase::Header(Open::Closed)
+    ended(register)
 }
 
 // The word is written to its register.
@@ -172,7 +179,7 @@ fn fdri_word(left: u32, filled: u32, control: Control, word: u32) -> Fed
         let mut flags = control.flags;
         flags.buffer_valid = true;
         return Fed {
-            phase: Phase::Crc,
+            phase: ended(Register::Fdri),
             control: with_flags(flags, put(Register::Fdri, word, control)),
             event: Event::Keep {
                 at: filled,
@@ -205,7 +212,7 @@ fn mfwr_stored(current: Current, control: Control, word: u32) -> Fed
 {
     match current {
         Current::Frame(n) => Fed {
-            phase: Phase::Header(Open::Closed),
+            phase: ended(Register::Mfwr),
             control: put(Register::Mfwr, word, control),
             event: Event::Store(n),
         },

@@ -194,7 +194,7 @@ module _ (c : Control) (s : Sound c) where
   stored-fine Current.NoFrame left filled w k = stop-fine Stop.NoCurrentFrame c s
 
   fdri-fine : (left filled w : ℕ) → Filling left filled (lengthAt (c .device)) → Fine (fdriWord left filled c w)
-  unfolding fdriWord hold phaseFits
+  unfolding fdriWord ended addressOf hold phaseFits
   fdri-fine left filled w k =
       let q = put-sound Register.Fdri w c s (s .cmd) in
       either Fine (leb left 1) (λ t. record { state = q; phase = refl })
@@ -205,7 +205,7 @@ module _ (c : Control) (s : Sound c) where
   -- ---- MFWR
 
   second-fine : (n : Current) (w : ℕ) → Fine (mfwrStored n c w)
-  unfolding mfwrStored hold phaseFits
+  unfolding mfwrStored ended addressOf hold phaseFits
   second-fine (Current.Frame n) w = record { state = put-sound Register.Mfwr w c s (s .cmd); phase = refl }
   second-fine Current.NoFrame w = stop-fine Stop.NoCurrentFrame c s
 

@@ -17,7 +17,7 @@ use Rattle.registers.specs.declared.Register.the-variants as Register
 use Rattle.registers.specs.declared.Open.the-variants as Open
 use Rattle.config.specs.Registers.{fedCrc, hold}
 use Rattle.config.specs.Control.{fed, withFlags, withCurrent, withBufferValid}
-use Rattle.config.specs.Words.{put, checked, stepped, frameStored, fdriWord, dataWord, word}
+use Rattle.config.specs.Words.{ended, put, checked, stepped, frameStored, fdriWord, dataWord, word}
 use Rattle.config.specs.declared.Control.{Control}
 use Rattle.config.specs.declared.Current.{Current}
 use Rattle.config.specs.declared.Current.the-variants as Current
@@ -47,7 +47,7 @@ stores left filled c w n hl hf at = simp (lt-leb left 1 hl, le-ltb (filled + 1) 
 
 ends : (left filled : ℕ) (c : Control) (w : ℕ) → left ≡ 1
     → word (Phase.Data Register.Fdri left filled) c w ≡ fed Phase.Crc (withFlags (withBufferValid (c .flags)) (put Register.Fdri w c)) (Event.Keep filled w)
-unfolding word dataWord fdriWord
+unfolding word dataWord fdriWord ended addressOf
 ends left filled c w hl = simp (le-leb left 1 (omega arith))
 
 -- the buffer's words that count, with one kept

@@ -16,7 +16,7 @@ use Rattle.registers.specs.declared.Open.the-variants as Open
 use Rattle.config.specs.Registers.{fedCrc, hold}
 use Rattle.config.specs.Control.{fed}
 use Rattle.config.specs.Packets.{ready, counted, begin, typeOneWrite, obeyed}
-use Rattle.config.specs.Words.{put, mfwrStored, mfwrWord, dataWord, word}
+use Rattle.config.specs.Words.{ended, put, mfwrStored, mfwrWord, dataWord, word}
 use Rattle.config.specs.declared.Control.{Control}
 use Rattle.config.specs.declared.Current.{Current}
 use Rattle.config.specs.declared.Current.the-variants as Current
@@ -38,7 +38,7 @@ multi-begins c idcode flr cmd valid = simp (header-one Register.Mfwr 2 (omega ar
 -- the second word stores the frame in hand
 multi-stores : (c : Control) (n : ℕ) → c .current ≡ Current.Frame n
     → word (Phase.Data Register.Mfwr 1 0) c 0 ≡ fed (Phase.Header Open.Closed) (put Register.Mfwr 0 c) (Event.Store n)
-unfolding word dataWord mfwrWord mfwrStored
+unfolding word dataWord mfwrWord mfwrStored ended addressOf
 multi-stores c n at = simp at
 
 module _ (d v n : ℕ) (ws m : List ℕ) (fits : 4 * lengthAt d * n + 4 * lengthAt d ≤ length m) where

@@ -6,6 +6,9 @@ use Rattle.config.specs.Words.{fdriWord}
 use Rattle.config.proofs.data.fdri_word.Statement.{statement}
 use Rattle.config.proofs.data.fdri_word.Tie as tie
 
+ended-requires : tie.Need-ended-requires
+ended-requires c κs = search needs
+
 put-requires : tie.Need-put-requires
 put-requires c κs = search needs
 
@@ -14,7 +17,7 @@ with-flags-requires c κs = search needs
 
 returns : tie.Need-returns
 unfolding fdriWord
-returns c = simp (c .with-flags .ensures, c .before .put .ensures, le-leb _ _ (c .before .before .before .if1 .taken))
+returns c = simp (c .with-flags .ensures, c .before .put .ensures, c .before .before .ended .ensures, le-leb _ _ (c .before .before .before .before .if1 .taken))
 
 length-at-requires : tie.Need-length-at-requires
 length-at-requires c κs = search needs
@@ -25,11 +28,11 @@ add-if2 c = search needs
 cast-if2 : tie.Need-cast-if2
 cast-if2 c = search needs
 
-sub-t18 : tie.Need-sub-t18
-sub-t18 c = search needs
+sub-t19 : tie.Need-sub-t19
+sub-t19 c = search needs
 
-add-t19 : tie.Need-add-t19
-add-t19 c = search needs
+add-t20 : tie.Need-add-t20
+add-t20 c = search needs
 
 put-requires-2 : tie.Need-put-requires-2
 put-requires-2 c κs = search needs
@@ -51,14 +54,15 @@ pub fdri-word-spec : {M : Type 1} → statement M
 fdri-word-spec =
     tie.close
     (tie.spec
+    ended-requires
     put-requires
     with-flags-requires
     returns
     length-at-requires
     add-if2
     cast-if2
-    sub-t18
-    add-t19
+    sub-t19
+    add-t20
     put-requires-2
     returns-2
     frame-stored-requires

@@ -8,6 +8,9 @@ use Rattle.config.proofs.data.mfwr_stored.Tie as tie
 enum-known-current : tie.Need-enum-known-current
 enum-known-current c = search needs
 
+ended-requires : tie.Need-ended-requires
+ended-requires c κs = search needs
+
 put-requires : tie.Need-put-requires
 put-requires c κs = search needs
 
@@ -19,7 +22,7 @@ stopped-requires c κs = search needs
 
 returns : tie.Need-returns
 unfolding mfwrStored
-returns c = simp (c .put .ensures, c .before .before .current .given .1)
+returns c = simp (c .put .ensures, c .before .ended .ensures, c .before .before .before .current .given .1)
 
 returns-2 : tie.Need-returns-2
 unfolding mfwrStored
@@ -28,4 +31,4 @@ returns-2 c = simp (c .stopped .ensures, c .before .enum-told .given .1)
 pub mfwr-stored-spec : {M : Type 1} → statement M
 mfwr-stored-spec =
     tie.close
-    (tie.spec enum-known-current put-requires enum-told stopped-requires returns returns-2)
+    (tie.spec enum-known-current ended-requires put-requires enum-told stopped-requires returns returns-2)
