@@ -5,6 +5,7 @@ use Rattle.config.specs.declared.Registers.{Registers}
 use Rattle.config.specs.declared.Flags.{Flags}
 use Rattle.config.specs.declared.Current.{Current}
 use Rattle.config.specs.declared.Bytes.{Bytes}
+use Rattle.config.specs.declared.Bytes.the-variants as Bytes
 use Rattle.config.specs.declared.Control.{Control}
 use Rattle.config.specs.declared.Phase.{Phase}
 use Rattle.config.specs.declared.Phase.the-variants as Phase
@@ -30,7 +31,7 @@ fed p c e = record { phase = p; control = c; event = e }
 
 -- 01: "The bad word is dropped: not fed, not kept, with nothing in the record changed but the phase and an emptied part word"
 abbrev pub stopped : Stop → Control → Fed
-stopped s c = fed (Phase.Stopped s) c Event.Nothing
+stopped s c = fed (Phase.Stopped s) (withPartial Bytes.Zero c) Event.Nothing
 
 -- ---- flags with one of them replaced
 

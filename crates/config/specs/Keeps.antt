@@ -1,13 +1,13 @@
 -- No word and no byte changes the device number, or clears started, buffer_valid, idcode_ok or flr_ok.
 -- By the cases of each definition: every outcome leaves the device and either leaves the four flags or sets one of them.
-use mathlib.Core.Path.{_≡_, _∙_, refl}
+use mathlib.Core.Path.{_≡_, _∙_, refl, ap}
 use mathlib.Core.Bool.{Bool, true, _||_}
 use Prim.Native.Nat.{ℕ, _+_}
 use lib.Dec.{eqb, leb, ltb}
 use Rattle.parts.specs.Cases.{either}
 use Rattle.parts.specs.Device.{idcodeAt, lengthAt}
 use Rattle.registers.specs.Addresses.{registerAt}
-use Rattle.config.specs.Control.{withPartial, fed}
+use Rattle.config.specs.Control.{withPartial}
 use Rattle.config.specs.Packets.{ready, counted, begin, typeOneWrite, obeyed, packet, headerWord}
 use Rattle.config.specs.Commands.{desynced, signalled, acted}
 use Rattle.config.specs.Words.{checked, farWord, cmdWord, frameStored, fdriWord, mfwrStored, mfwrWord, idcodeWord, flrWord, dataWord, word}
@@ -82,32 +82,34 @@ module _ (c : Control) where
   abbrev Keeping : Fed → Type 0
   Keeping f = Kept c (f .control)
 
-  -- a header word changes only the phase
-  abbrev Plain : Fed → Type 0
-  Plain f = f ≡ fed (f .phase) c Event.Nothing
+  -- a header word changes only the phase, and the partial word where it stops
+  abbrev pub Plain : Fed → Type 0
+  Plain f = (withPartial Bytes.Zero (f .control) ≡ withPartial Bytes.Zero c) × (f .event ≡ Event.Nothing)
 
   begin-plain : (r : Register) (n : ℕ) → Plain (begin r n c)
   unfolding begin
-  begin-plain r n = either Plain (ready r c) (λ h. either Plain (counted r (lengthAt (c .device)) n) (λ h. refl) (λ h. refl)) (λ h. refl)
+  begin-plain r n = either Plain (ready r c) (λ h. either Plain (counted r (lengthAt (c .device)) n) (λ h. (refl, refl)) (λ h. (refl, refl))) (λ h. (refl, refl))
 
   one-plain : (o : Open) (n : ℕ) → Plain (typeOneWrite o n c)
   unfolding typeOneWrite
-  one-plain Open.Closed n = refl
-  one-plain (Open.After r) n = either Plain (eqb n 0) (λ h. refl) (λ h. begin-plain r n)
+  one-plain Open.Closed n = (refl, refl)
+  one-plain (Open.After r) n = either Plain (eqb n 0) (λ h. (refl, refl)) (λ h. begin-plain r n)
 
   obeyed-plain : (k : Packet) → Plain (obeyed k c)
   unfolding obeyed
-  obeyed-plain Packet.Idle = refl
-  obeyed-plain Packet.Bad = refl
-  obeyed-plain Packet.Read = refl
+  obeyed-plain Packet.Idle = (refl, refl)
+  obeyed-plain Packet.Bad = (refl, refl)
+  obeyed-plain Packet.Read = (refl, refl)
   obeyed-plain (Packet.Write a n) = one-plain (registerAt a) n
-  obeyed-plain (Packet.LongWrite r n) = either Plain (eqb n 0) (λ h. refl) (λ h. begin-plain r n)
+  obeyed-plain (Packet.LongWrite r n) = either Plain (eqb n 0) (λ h. (refl, refl)) (λ h. begin-plain r n)
 
-  pub header-plain : (o : Open) (w : ℕ) → headerWord o c w ≡ fed (headerWord o c w .phase) c Event.Nothing
+  pub header-plain : (o : Open) (w : ℕ) → Plain (headerWord o c w)
   header-plain o w = obeyed-plain (packet o w)
 
   pub header-keeps : (o : Open) (w : ℕ) → Kept c (headerWord o c w .control)
-  header-keeps o w = rw (header-plain o w) (kept-refl c)
+  header-keeps o w =
+      let e = header-plain o w .0 in
+      record { device = ap (λ (k : Control). k .device) e; flags = rw (ap (λ (k : Control). k .flags) e) (grown-refl (c .flags)) }
 
   crc-keeps : (v : ℕ) (p : Phase) → Keeping (checked v p c)
   unfolding checked

@@ -30,6 +30,7 @@ use Rattle.config.specs.declared.Phase.the-variants as Phase
 use Rattle.answers.specs.declared.Stop.{Stop}
 use Rattle.answers.specs.declared.Stop.the-variants as Stop
 use Rattle.config.specs.declared.Event.{Event}
+use Rattle.config.specs.declared.Event.the-variants as Event
 use Rattle.config.specs.declared.Fed.{Fed}
 
 -- 01: "with nothing in the record changed ... Only at 8 it is fed first, and the CRC stays as it then is"
@@ -44,6 +45,19 @@ leftAt Stop.WrongCount c w = c
 leftAt Stop.CrcMismatch c w = withRegisters (withCrc (feed (c .registers .crc) 0 w) (c .registers)) c
 leftAt Stop.NoCurrentFrame c w = c
 leftAt Stop.UnknownCommand c w = c
+
+-- the partial word has no bearing on what a stop leaves
+pub left-partial : (s : Stop) (b : Bytes) (c : Control) (w : ℕ) → leftAt s (withPartial b c) w ≡ withPartial b (leftAt s c w)
+left-partial Stop.BadHeader b c w = refl
+left-partial Stop.BadRegister b c w = refl
+left-partial Stop.ReadOperation b c w = refl
+left-partial Stop.WrongIdcode b c w = refl
+left-partial Stop.WrongFrameLength b c w = refl
+left-partial Stop.NotReady b c w = refl
+left-partial Stop.WrongCount b c w = refl
+left-partial Stop.CrcMismatch b c w = refl
+left-partial Stop.NoCurrentFrame b c w = refl
+left-partial Stop.UnknownCommand b c w = refl
 
 abbrev pub running : Phase → Bool
 running (Phase.Hunting b) = true
@@ -161,7 +175,7 @@ hunting-runs (Bytes.Two a b) c x = refl
 hunting-runs (Bytes.Three a b d) c x = either Running (isSync a b d x) (λ h. refl) (λ h. refl)
 
 -- 01: "A stopped device takes nothing"
-pub stopped-stays : (s : Stop) (c : Control) (x : ℕ) → byte (Phase.Stopped s) c x ≡ stopped s c
+pub stopped-stays : (s : Stop) (c : Control) (x : ℕ) → byte (Phase.Stopped s) c x ≡ fed (Phase.Stopped s) c Event.Nothing
 unfolding byte
 stopped-stays s c x = refl
 
@@ -171,7 +185,7 @@ pub record Ended (p : Phase) (c : Control) (x : ℕ) (s : Stop) : Type 0 where
   pub second : ℕ
   pub third : ℕ
   pub before : c .partial ≡ Bytes.Three first second third
-  pub left : byte p c x ≡ stopped s (leftAt s (withPartial Bytes.Zero c) (wordOf first second third x))
+  pub left : byte p c x ≡ stopped s (leftAt s c (wordOf first second third x))
 
 gathered-stops : (b : Bytes) (p : Phase) (c : Control) (x : ℕ) → running p ≡ true → c .partial ≡ b → byte p c x ≡ gathered b p c x
     → (s : Stop) → gathered b p c x .phase ≡ Phase.Stopped s → Ended p c x s
@@ -179,7 +193,7 @@ unfolding gathered
 gathered-stops Bytes.Zero p c x g k e s q = absurd (false≢true (rw q at g))
 gathered-stops (Bytes.One a) p c x g k e s q = absurd (false≢true (rw q at g))
 gathered-stops (Bytes.Two a b) p c x g k e s q = absurd (false≢true (rw q at g))
-gathered-stops (Bytes.Three a b d) p c x g k e s q = record { first = a; second = b; third = d; before = k; left = e ∙ word-stops p (withPartial Bytes.Zero c) (wordOf a b d x) g s q }
+gathered-stops (Bytes.Three a b d) p c x g k e s q = record { first = a; second = b; third = d; before = k; left = e ∙ word-stops p (withPartial Bytes.Zero c) (wordOf a b d x) g s q ∙ ap (stopped s) (left-partial s Bytes.Zero c (wordOf a b d x)) }
 
 -- a byte that stops the machine
 pub byte-stops : (p : Phase) (c : Control) (x : ℕ) → running p ≡ true → (s : Stop) → byte p c x .phase ≡ Phase.Stopped s → Ended p c x s

@@ -1,10 +1,12 @@
 // Header words: parsed, then obeyed. The checks go 1, 3, 2, 6, 7.
+use crate::Bytes;
 use crate::Control;
 use crate::Event;
 use crate::Fed;
 use crate::Packet;
 use crate::Phase;
 use crate::figures::length_at;
+use crate::stream::with_partial;
 use answers::Stop;
 use registers::Open;
 use registers::Register;
@@ -26,13 +28,13 @@ pub(crate) fn going(phase: Phase, control: Control) -> Fed
     }
 }
 
-// The bad word is dropped.
+// The bad word is dropped, and the partial word is emptied.
 pub(crate) fn stopped(stop: Stop, control: Control) -> Fed
     ensures { λ r. ⌜ r ≡ stopped stop control ⌝ }
 {
     Fed {
         phase: Phase::Stopped(stop),
-        control: control,
+        control: with_partial(Bytes::Zero, control),
         event: Event::Nothing,
     }
 }

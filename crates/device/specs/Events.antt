@@ -1,6 +1,6 @@
 -- An event is FDRI's word, kept at the next place, or a store at the current frame; from a consistent state the place is under L, the frame under F.
 -- By the cases of each definition, with the phase and the current frame that the word met; then by the items of consistency.
-use mathlib.Core.Path.{_≡_, refl, ap}
+use mathlib.Core.Path.{_≡_, refl}
 use mathlib.Core.Bool.{true, and-eq-true-iff}
 use Prim.Native.Nat.{ℕ, _+_, _<_}
 use native.Mathlib.Omega.{arith}
@@ -34,7 +34,7 @@ use Rattle.config.specs.declared.Event.the-variants as Event
 use Rattle.config.specs.declared.Fed.{Fed}
 
 pub header-quiet : (o : Open) (c : Control) (w : ℕ) → headerWord o c w .event ≡ Event.Nothing
-header-quiet o c w = ap (λ (f : Fed). f .event) (header-plain c o w)
+header-quiet o c w = header-plain c o w .1
 
 -- ---- where an event comes from: the phase that the word met, and the current frame before it
 

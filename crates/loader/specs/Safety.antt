@@ -12,7 +12,7 @@ use Rattle.config.specs.Control.{withPartial, stopped}
 use Rattle.device.specs.Consistent.{consistent}
 use Rattle.device.specs.Consistency.{byte-consistent}
 use Rattle.config.specs.Keeps.{Grown, grown-refl, grown-trans, byte-keeps}
-use Rattle.config.specs.Stopping.{leftAt, running, word-stops}
+use Rattle.config.specs.Stopping.{leftAt, left-partial, running, word-stops}
 use Rattle.config.specs.Bytes.{wordOf, byte}
 use Rattle.config.specs.declared.Control.{Control}
 use Rattle.config.specs.declared.Fed.{Fed}
@@ -98,7 +98,7 @@ stop-leaves d m a b c e rest s takes empty stops =
     let all : fedWord d w ≡ stopped s (leftAt s (withPartial Bytes.Zero (d .control)) w) = word-stops (d .phase) (withPartial Bytes.Zero (d .control)) w (takes-runs (d .phase) takes) s stops in
     run-stops d takes m a b c e rest s empty stops (ap (λ (f : Fed). f .event) all)
     ∙ ap (λ (k : Control). ran (record { phase = Phase.Stopped s; control = k; frame = d .frame }) m 4)
-    (ap (λ (f : Fed). f .control) all ∙ ap (λ (k : Control). leftAt s k w) (partial-empty (d .control) empty))
+    (ap (λ (f : Fed). f .control) all ∙ sym (left-partial s Bytes.Zero (withPartial Bytes.Zero (d .control)) w) ∙ ap (λ (k : Control). leftAt s k w) (partial-empty (d .control) empty))
 
 module _ (d : Device) (m xs : List ℕ) (a b c e : ℕ) (rest : List ℕ) (s : Stop) where
   -- the word a, b, c, e stops the run after the bytes xs
