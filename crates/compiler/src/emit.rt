@@ -6,6 +6,7 @@ use crate::packet::put_command;
 use crate::packet::put_multi;
 use crate::packet::put_word;
 use crate::packet::put_write;
+use crc16::CrcTable;
 use layout::FrameRange;
 use layout::step::StepAt;
 use layout::step::read_step;
@@ -17,6 +18,7 @@ use parts::device::value_of;
 use parts::frame::AddressAnswer;
 use parts::frame::frame_address;
 use registers::Register;
+use registers::command;
 ghost use mathlib.Core.Path.{_≡_};
 ghost use mathlib.Core.Bool.{true};
 ghost use mathlib.Core.List.{[], _∷_};
@@ -51,7 +53,7 @@ fn address_told(answer: AddressAnswer) -> u32
 
 // Writes a frame's address to FAR.
 fn put_address(
-    table: &[u16; 256],
+    table: &CrcTable,
     output: &mut [u8],
     cursor: Cursor,
     device: u32,
@@ -67,7 +69,7 @@ fn put_address(
 
 // Writes FAR and MFWR for each further target, read from an offset on.
 fn put_further(
-    table: &[u16; 256],
+    table: &CrcTable,
     output: &mut [u8],
     cursor: Cursor,
     device: u32,
@@ -100,7 +102,7 @@ fn put_further(
 
 // Writes FAR and MFWR for each target, with CMD MFWR at the first, read from an offset on.
 fn put_spread(
-    table: &[u16; 256],
+    table: &CrcTable,
     output: &mut [u8],
     cursor: Cursor,
     device: u32,
@@ -116,7 +118,7 @@ fn put_spread(
         Number::Refused(_) => cursor,
         Number::Value { value, next } => {
             let aimed = put_address(table, output, cursor, device, value);
-            let told = put_command(table, output, aimed, 2);
+            let told = put_command(table, output, aimed, command::MFWR);
             let written = put_multi(table, output, told);
             put_further(table, output, written, device, layout, count - 1, next)
         }
@@ -125,7 +127,7 @@ fn put_spread(
 
 // Writes one step that was read.
 fn put_step(
-    table: &[u16; 256],
+    table: &CrcTable,
     output: &mut [u8],
     cursor: Cursor,
     device: u32,
@@ -144,7 +146,7 @@ fn put_step(
             body,
             next: _,
         } => {
-            let begun = put_command(table, output, cursor, 1);
+            let begun = put_command(table, output, cursor, command::WCFG);
             let aimed = put_address(table, output, begun, device, first);
             put_frames(table, output, aimed, layout, body, count as usize * l, l)
         }
@@ -154,7 +156,7 @@ fn put_step(
             targets,
             next: _,
         } => {
-            let begun = put_command(table, output, cursor, 1);
+            let begun = put_command(table, output, cursor, command::WCFG);
             let held = put_frames(table, output, begun, layout, body, l, 0);
             put_spread(table, output, held, device, layout, count, targets)
         }
@@ -184,7 +186,7 @@ fn next_of(step: StepAt) -> usize
 
 // Writes the steps of a list that was read, from an offset on.
 fn put_steps(
-    table: &[u16; 256],
+    table: &CrcTable,
     output: &mut [u8],
     cursor: Cursor,
     device: u32,
@@ -210,7 +212,7 @@ fn put_steps(
 
 // Writes the steps of a layout that was accepted. Its edition and its device have one byte each.
 fn put_list(
-    table: &[u16; 256],
+    table: &CrcTable,
     output: &mut [u8],
     cursor: Cursor,
     device: u32,
@@ -230,14 +232,14 @@ fn put_list(
 }
 
 // Writes what stands before the steps.
-fn put_heading(table: &[u16; 256], output: &mut [u8], device: u32) -> Cursor
+fn put_heading(table: &CrcTable, output: &mut [u8], device: u32) -> Cursor
     requires { ⌜ (now table ≡ entries 256 0) × (device ≤ 7) × (32 ≤ length (now output)) ⌝ }
     ensures { λ r. ⌜ Written (synced (now (output .entry))) (penAt 8 0) (heading device) (now (output .exit)) r ⌝ }
 {
     put_word(output, 0, 0xFFFFFFFF);
     put_word(output, 4, 0xAA995566);
     let cursor = Cursor { at: 8, crc: 0 };
-    let reset = put_command(table, output, cursor, 7);
+    let reset = put_command(table, output, cursor, command::RCRC);
     let length = value_of(frame_length(device));
     let sized = put_write(table, output, reset, Register::Flr, length - 1);
     let code = value_of(idcode(device));
@@ -253,5 +255,5 @@ pub(crate) fn put_stream(device: u32, range: FrameRange, layout: &[u8], output: 
     let begun = put_heading(&table, output, device);
     let done = put_list(&table, output, begun, device, range, layout);
     let checked = put_check(output, done);
-    put_command(&table, output, checked, 13);
+    put_command(&table, output, checked, command::DESYNC);
 }

@@ -2,6 +2,7 @@
 use crate::packet::Cursor;
 use crate::packet::put_fed;
 use crate::packet::put_word;
+use crc16::CrcTable;
 ghost use mathlib.Core.Path.{_≡_};
 ghost use mathlib.Core.List.{[], _∷_, _++_};
 ghost use Prim.Native.Nat.{ℕ, _+_, _*_, _≤_, _<_};
@@ -28,7 +29,7 @@ fn word_at(layout: &[u8], i: usize) -> u32
 
 // Copies n words of the layout from an offset on and feeds them for FDRI.
 fn put_data(
-    table: &[u16; 256],
+    table: &CrcTable,
     output: &mut [u8],
     cursor: Cursor,
     layout: &[u8],
@@ -53,7 +54,7 @@ fn put_data(
 }
 
 // Writes n zero words and feeds them for FDRI.
-fn put_zeros(table: &[u16; 256], output: &mut [u8], cursor: Cursor, n: usize) -> Cursor
+fn put_zeros(table: &CrcTable, output: &mut [u8], cursor: Cursor, n: usize) -> Cursor
     requires { ⌜ (now table ≡ entries 256 0) × (cursor .at + 4 * n ≤ length (now output)) ⌝ }
     ensures { λ r. ⌜ r .at ≡ cursor .at + 4 * n ⌝ }
     ensures { λ r. ⌜ r .crc ≡ fedWords (cursor .crc) 2 (replicate {A = ℕ} n 0) ⌝ }
@@ -70,7 +71,7 @@ fn put_zeros(table: &[u16; 256], output: &mut [u8], cursor: Cursor, n: usize) ->
 
 // Writes n words of the layout and zero words after them to FDRI, with the auto CRC word.
 pub(crate) fn put_frames(
-    table: &[u16; 256],
+    table: &CrcTable,
     output: &mut [u8],
     cursor: Cursor,
     layout: &[u8],

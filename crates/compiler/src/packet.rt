@@ -1,6 +1,8 @@
 // Words and packets into the output, with the CRC that runs along.
+use crc16::CrcTable;
 use registers::Register;
 use registers::address_of;
+use registers::command::RCRC;
 ghost use mathlib.Core.Path.{_≡_};
 ghost use mathlib.Core.List.{[], _∷_};
 ghost use Prim.Native.Nat.{_+_, _≤_};
@@ -30,7 +32,7 @@ pub(crate) fn put_word(output: &mut [u8], at: usize, word: u32)
 
 // Writes a word and feeds it for the register at an address.
 pub(crate) fn put_fed(
-    table: &[u16; 256],
+    table: &CrcTable,
     output: &mut [u8],
     cursor: Cursor,
     address: u32,
@@ -50,7 +52,7 @@ pub(crate) fn put_fed(
 
 // Writes a word to a register.
 pub(crate) fn put_write(
-    table: &[u16; 256],
+    table: &CrcTable,
     output: &mut [u8],
     cursor: Cursor,
     register: Register,
@@ -72,7 +74,7 @@ pub(crate) fn put_write(
 
 // Writes a command. RCRC makes the CRC zero.
 pub(crate) fn put_command(
-    table: &[u16; 256],
+    table: &CrcTable,
     output: &mut [u8],
     cursor: Cursor,
     command: u32,
@@ -83,7 +85,7 @@ pub(crate) fn put_command(
     ensures { λ _. ⌜ now (output .exit) ≡ emitted (now (output .entry)) (cursor .at) (cursor .crc) (Packet.Command command ∷ []) ⌝ }
 {
     let after = put_write(table, output, cursor, Register::Cmd, command);
-    if command == 7 {
+    if command == RCRC {
         return Cursor {
             at: after.at,
             crc: 0,
@@ -108,7 +110,7 @@ pub(crate) fn put_check(output: &mut [u8], cursor: Cursor) -> Cursor
 }
 
 // Writes two zero words to MFWR.
-pub(crate) fn put_multi(table: &[u16; 256], output: &mut [u8], cursor: Cursor) -> Cursor
+pub(crate) fn put_multi(table: &CrcTable, output: &mut [u8], cursor: Cursor) -> Cursor
     requires { ⌜ (now table ≡ entries 256 0) × (cursor .at + 12 ≤ length (now output)) ⌝ }
     ensures { λ r. ⌜ r .at ≡ cursor .at + 12 ⌝ }
     ensures { λ r. ⌜ r .crc ≡ crcAfter (cursor .crc) (Packet.MultiFrame ∷ []) ⌝ }

@@ -3,6 +3,7 @@
 use Prim.Native.Nat.{ℕ}
 use mathlib.Core.Bool.{true, false, cond, _&&_, _||_}
 use lib.Dec.{eqb}
+use Rattle.registers.specs.Codes.{LFRM, START, RCRC, AGHIGH, DESYNC}
 use Rattle.config.specs.Registers.{withCrc}
 use Rattle.config.specs.Control.{withRegisters, withFlags, withGhigh, withStartup, fed}
 use Rattle.config.specs.declared.Bytes.the-variants as Bytes
@@ -21,18 +22,18 @@ desynced f = withStartup false (f .checked) (f .started || (f .«start_pending»
 -- 01: "AGHIGH and LFRM set and clear GHIGH. START makes a start pending and forgets passed checks."
 unfoldable pub signalled : ℕ → Flags → Flags
 signalled k f =
-    cond (eqb k 3) (withGhigh false f)
-    (cond (eqb k 5) (withStartup true false (f .started) f)
-    (cond (eqb k 8) (withGhigh true f)
-    (cond (eqb k 13) (desynced f) f)))
+    cond (eqb k LFRM) (withGhigh false f)
+    (cond (eqb k START) (withStartup true false (f .started) f)
+    (cond (eqb k AGHIGH) (withGhigh true f)
+    (cond (eqb k DESYNC) (desynced f) f)))
 
 -- 01: "RCRC makes the CRC zero"
 unfoldable pub crcAfter : ℕ → ℕ → ℕ
-crcAfter k v = cond (eqb k 7) 0 v
+crcAfter k v = cond (eqb k RCRC) 0 v
 
 -- 01: "DESYNC returns to hunting with no bytes remembered"; words left in the packet are dropped
 unfoldable pub phaseAfter : ℕ → Phase → Phase
-phaseAfter k p = cond (eqb k 13) (Phase.Hunting Bytes.Zero) p
+phaseAfter k p = cond (eqb k DESYNC) (Phase.Hunting Bytes.Zero) p
 
 -- command k acts: 01, "The others only stand in CMD"
 unfoldable pub acted : ℕ → Phase → Control → Fed

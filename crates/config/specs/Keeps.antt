@@ -7,6 +7,7 @@ use lib.Dec.{eqb, leb, ltb}
 use Rattle.parts.specs.Cases.{either}
 use Rattle.parts.specs.Device.{idcodeAt, lengthAt}
 use Rattle.registers.specs.Addresses.{registerAt}
+use Rattle.registers.specs.Codes.{LFRM, START, AGHIGH, DESYNC, LAST}
 use Rattle.config.specs.Control.{withPartial}
 use Rattle.config.specs.Packets.{ready, counted, begin, typeOneWrite, obeyed, packet, headerWord}
 use Rattle.config.specs.Commands.{desynced, signalled, acted}
@@ -67,10 +68,10 @@ or-left a b h = rw h
 pub signalled-grown : (k : ℕ) (f : Flags) → Grown f (signalled k f)
 unfolding signalled desynced
 signalled-grown k f =
-    either (Grown f) (eqb k 3) (λ h. grown-refl f)
-    (λ h. either (Grown f) (eqb k 5) (λ h. grown-refl f)
-    (λ h. either (Grown f) (eqb k 8) (λ h. grown-refl f)
-    (λ h. either (Grown f) (eqb k 13) (λ h. record { started = or-left _ _; buffer-valid = λ h. h; idcode-ok = λ h. h; flr-ok = λ h. h }) (λ h. grown-refl f))))
+    either (Grown f) (eqb k LFRM) (λ h. grown-refl f)
+    (λ h. either (Grown f) (eqb k START) (λ h. grown-refl f)
+    (λ h. either (Grown f) (eqb k AGHIGH) (λ h. grown-refl f)
+    (λ h. either (Grown f) (eqb k DESYNC) (λ h. record { started = or-left _ _; buffer-valid = λ h. h; idcode-ok = λ h. h; flr-ok = λ h. h }) (λ h. grown-refl f))))
 
 pub acted-keeps : (k : ℕ) (p : Phase) (c : Control) → Kept c (acted k p c .control)
 unfolding acted
@@ -136,7 +137,7 @@ module _ (c : Control) where
   data-keeps Register.Crc left filled w = crc-keeps _ _
   data-keeps Register.Far left filled w = acted-keeps (c .registers .cmd) _ _
   data-keeps Register.Fdri left filled w = fdri-keeps left filled w
-  data-keeps Register.Cmd left filled w = either Keeping (ltb 13 w) (λ h. kept-refl c) (λ h. acted-keeps w _ _)
+  data-keeps Register.Cmd left filled w = either Keeping (ltb LAST w) (λ h. kept-refl c) (λ h. acted-keeps w _ _)
   data-keeps Register.Ctl left filled w = kept-refl c
   data-keeps Register.Mask left filled w = kept-refl c
   data-keeps Register.Lout left filled w = kept-refl c

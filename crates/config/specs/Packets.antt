@@ -5,6 +5,7 @@ use mathlib.Core.Bool.{Bool, true, cond, _&&_}
 use lib.Dec.{eqb}
 use Rattle.parts.specs.Device.{lengthAt}
 use Rattle.registers.specs.Addresses.{isFdri, isMfwr, registerAt}
+use Rattle.registers.specs.Codes.{WCFG, MFWR}
 use Rattle.config.specs.Control.{fed, stopped}
 use Rattle.registers.specs.declared.Register.{Register}
 use Rattle.registers.specs.declared.Open.{Open}
@@ -52,8 +53,8 @@ packet o w = cond (eqb w 0) Packet.Idle (cond (eqb (typeOf w) 1) (type1 w) (cond
 -- 01, stop 6: "before IDCODE and FLR were accepted, or CMD not WCFG (FDRI), not MFWR (MFWR), or MFWR with no frame in hand"
 unfoldable pub ready : Register → Control → Bool
 ready r c =
-    cond (isFdri r) (c .flags .«idcode_ok» && c .flags .«flr_ok» && eqb (c .registers .cmd) 1)
-    (cond (isMfwr r) (c .flags .«idcode_ok» && c .flags .«flr_ok» && eqb (c .registers .cmd) 2 && c .flags .«buffer_valid») true)
+    cond (isFdri r) (c .flags .«idcode_ok» && c .flags .«flr_ok» && eqb (c .registers .cmd) WCFG)
+    (cond (isMfwr r) (c .flags .«idcode_ok» && c .flags .«flr_ok» && eqb (c .registers .cmd) MFWR && c .flags .«buffer_valid») true)
 
 -- 01, stop 7: "FDRI count not whole frames, MFWR count not 2"
 unfoldable pub counted : Register → ℕ → ℕ → Bool

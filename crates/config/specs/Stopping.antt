@@ -8,6 +8,7 @@ use Rattle.crc16.specs.Register.{feed}
 use Rattle.parts.specs.Cases.{either}
 use Rattle.parts.specs.Device.{idcodeAt, lengthAt}
 use Rattle.registers.specs.Addresses.{isFdri, registerAt}
+use Rattle.registers.specs.Codes.{DESYNC, LAST}
 use Rattle.config.specs.Registers.{withCrc}
 use Rattle.config.specs.Control.{withRegisters, withPartial, fed, stopped}
 use Rattle.config.specs.Packets.{ready, counted, begin, typeOneWrite, obeyed, packet}
@@ -81,7 +82,7 @@ onward-runs r left filled = either Running (leb left 1) (λ h. ended-runs r) (λ
 
 pub after-runs : (k : ℕ) (p : Phase) → running p ≡ true → running (phaseAfter k p) ≡ true
 unfolding phaseAfter
-after-runs k p g = either Running (eqb k 13) (λ h. refl) (λ h. g)
+after-runs k p g = either Running (eqb k DESYNC) (λ h. refl) (λ h. g)
 
 -- ---- words
 
@@ -145,7 +146,7 @@ module _ (c : Control) (w : ℕ) where
   data-stops Register.Crc left filled = crc-stops _ (onward-runs Register.Crc left filled)
   data-stops Register.Far left filled = acted-stops _ _ _ (onward-runs Register.Far left filled)
   data-stops Register.Fdri left filled = fdri-stops left filled
-  data-stops Register.Cmd left filled = either Stopping (ltb 13 w) (λ h. stops Stop.UnknownCommand) (λ h. acted-stops _ _ _ (onward-runs Register.Cmd left filled))
+  data-stops Register.Cmd left filled = either Stopping (ltb LAST w) (λ h. stops Stop.UnknownCommand) (λ h. acted-stops _ _ _ (onward-runs Register.Cmd left filled))
   data-stops Register.Ctl left filled = goes _ _ _ (onward-runs Register.Ctl left filled)
   data-stops Register.Mask left filled = goes _ _ _ (onward-runs Register.Mask left filled)
   data-stops Register.Lout left filled = goes _ _ _ (onward-runs Register.Lout left filled)

@@ -7,6 +7,7 @@ use Rattle.crc16.specs.Register.{feed}
 use Rattle.parts.specs.Device.{idcodeAt, lengthAt, countAt}
 use Rattle.config.specs.Part.{named}
 use Rattle.registers.specs.Addresses.{isFdri}
+use Rattle.registers.specs.Codes.{LAST}
 use Rattle.config.specs.Registers.{withCrc, written}
 use Rattle.config.specs.Control.{withRegisters, withFlags, withCurrent, withIdcodeOk, withFlrOk, withBufferValid, withChecked, fed, stopped}
 use Rattle.config.specs.Packets.{headerWord}
@@ -57,7 +58,7 @@ farWord p c w = acted (c .registers .cmd) p (withCurrent (named (c .device) w) (
 
 -- 01, stop 10: "CMD word above 13"
 unfoldable pub cmdWord : Phase → Control → ℕ → Fed
-cmdWord p c w = cond (ltb 13 w) (stopped Stop.UnknownCommand c) (acted w p (put Register.Cmd w c))
+cmdWord p c w = cond (ltb LAST w) (stopped Stop.UnknownCommand c) (acted w p (put Register.Cmd w c))
 
 -- ---- frames
 

@@ -5,6 +5,11 @@ use crate::Event;
 use crate::Fed;
 use crate::Flags;
 use crate::Phase;
+use registers::command::AGHIGH;
+use registers::command::DESYNC;
+use registers::command::LFRM;
+use registers::command::RCRC;
+use registers::command::START;
 ghost use mathlib.Core.Path.{_≡_};
 ghost use Rattle.config.specs.Commands.{desynced, signalled, crcAfter, phaseAfter, acted};
 
@@ -29,20 +34,20 @@ fn signalled(command: u32, flags: Flags) -> Flags
 {
     let mut f = flags;
     match command {
-        3 => {
+        LFRM => {
             f.ghigh = false;
             f
         }
-        5 => {
+        START => {
             f.start_pending = true;
             f.checked = false;
             f
         }
-        8 => {
+        AGHIGH => {
             f.ghigh = true;
             f
         }
-        13 => desynced(f),
+        DESYNC => desynced(f),
         _ => f,
     }
 }
@@ -50,13 +55,13 @@ fn signalled(command: u32, flags: Flags) -> Flags
 fn crc_after(command: u32, crc: u32) -> u32
     ensures { λ r. ⌜ r ≡ crcAfter command crc ⌝ }
 {
-    if command == 7 { 0 } else { crc }
+    if command == RCRC { 0 } else { crc }
 }
 
 fn phase_after(command: u32, phase: Phase) -> Phase
     ensures { λ r. ⌜ r ≡ phaseAfter command phase ⌝ }
 {
-    if command == 13 {
+    if command == DESYNC {
         Phase::Hunting(Bytes::Zero)
     } else {
         phase

@@ -17,7 +17,8 @@ use crate::writes::write;
 use answers::Stop;
 use registers::Open;
 use registers::Register;
-use registers::address_of;
+use registers::command;
+use registers::is_fdri;
 ghost use mathlib.Core.Path.{_≡_};
 ghost use Prim.Native.Nat.{_<_};
 ghost use Rattle.config.specs.Control.{withRegisters, withFlags, withCurrent};
@@ -72,7 +73,7 @@ fn with_current(current: Current, control: Control) -> Control
 fn ended(register: Register) -> Phase
     ensures { λ r. ⌜ r ≡ ended register ⌝ }
 {
-    if address_of(register) == 2 {
+    if is_fdri(register) {
         return Phase::Crc;
     }
     Phase::Header(Open::Closed)
@@ -129,7 +130,7 @@ fn far_word(phase: Phase, control: Control, word: u32) -> Fed
 fn cmd_word(phase: Phase, control: Control, word: u32) -> Fed
     ensures { λ r. ⌜ r ≡ cmdWord phase control word ⌝ }
 {
-    if 13 < word {
+    if command::LAST < word {
         return stopped(Stop::UnknownCommand, control);
     }
     act(word, phase, put(Register::Cmd, word, control))

@@ -10,7 +10,10 @@ use crate::stream::with_partial;
 use answers::Stop;
 use registers::Open;
 use registers::Register;
-use registers::address_of;
+use registers::command::MFWR;
+use registers::command::WCFG;
+use registers::is_fdri;
+use registers::is_mfwr;
 use registers::register_at;
 ghost use mathlib.Core.Path.{_≡_};
 ghost use Rattle.config.specs.Control.{fed, stopped};
@@ -103,15 +106,14 @@ fn packet(opened: Open, word: u32) -> Packet
 fn ready(register: Register, control: Control) -> bool
     ensures { λ r. ⌜ r ≡ ready register control ⌝ }
 {
-    let address = address_of(register);
     let flags = control.flags;
     let accepted = flags.idcode_ok && flags.flr_ok;
     let command = control.registers.cmd;
-    if address == 2 {
-        return accepted && command == 1;
+    if is_fdri(register) {
+        return accepted && command == WCFG;
     }
-    if address == 10 {
-        return accepted && command == 2 && flags.buffer_valid;
+    if is_mfwr(register) {
+        return accepted && command == MFWR && flags.buffer_valid;
     }
     true
 }
@@ -120,14 +122,13 @@ fn ready(register: Register, control: Control) -> bool
 fn counted(register: Register, length: u32, count: u32) -> bool
     ensures { λ r. ⌜ r ≡ counted register length count ⌝ }
 {
-    let address = address_of(register);
-    if address == 2 {
+    if is_fdri(register) {
         if length == 0 {
             return count == 0;
         }
         return count % length == 0;
     }
-    if address == 10 {
+    if is_mfwr(register) {
         return count == 2;
     }
     true

@@ -2,6 +2,7 @@
 use crate::Registers;
 use registers::Register;
 use registers::address_of;
+use registers::is_lout;
 ghost use mathlib.Core.Path.{_≡_};
 ghost use Rattle.config.specs.Registers.{masked, hold, written};
 
@@ -37,11 +38,10 @@ fn hold(register: Register, word: u32, registers: Registers) -> Registers
 pub(crate) fn write(register: Register, word: u32, registers: Registers) -> Registers
     ensures { λ r. ⌜ r ≡ written register word registers ⌝ }
 {
-    let address = address_of(register);
-    if address == 8 {
+    if is_lout(register) {
         return hold(register, word, registers);
     }
     let mut fed = registers;
-    fed.crc = crc16::feed(registers.crc, address, word);
+    fed.crc = crc16::feed(registers.crc, address_of(register), word);
     hold(register, word, fed)
 }

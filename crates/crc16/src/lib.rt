@@ -8,8 +8,11 @@ mod nibbles; // nibbles.rt: what each nibble adds
 
 use nibbles::TABLE;
 
+// Four groups, of four places, of sixteen nibbles.
+pub type CrcTable = [u16; 256];
+
 // What the low half-word of x picks from the table: group 0 as the register, 1 and 2 as the word's low and high half, 3 as the address.
-fn part(table: &[u16; 256], group: usize, x: u32) -> u16
+fn part(table: &CrcTable, group: usize, x: u32) -> u16
     requires { ⌜ group < 4 ⌝ }
     ensures { λ r. ⌜ r ≡ lookedUp (now (table .entry)) group x ⌝ }
 {
@@ -23,7 +26,7 @@ fn part(table: &[u16; 256], group: usize, x: u32) -> u16
 }
 
 // `feed` with the table lent: a constant is copied wherever it is named, so a loop over words takes one copy before it.
-pub fn feed_with(table: &[u16; 256], crc: u32, address: u32, word: u32) -> u32
+pub fn feed_with(table: &CrcTable, crc: u32, address: u32, word: u32) -> u32
     ensures { λ r. ⌜ r ≡ feedWith (now (table .entry)) crc address word ⌝ }
 {
     let register = part(table, 0, crc);
@@ -34,7 +37,7 @@ pub fn feed_with(table: &[u16; 256], crc: u32, address: u32, word: u32) -> u32
 }
 
 // The table with which `feed_with` feeds as `feed` does.
-pub fn table() -> [u16; 256]
+pub fn table() -> CrcTable
     ensures { λ r. ⌜ r ≡ entries 256 0 ⌝ }
 {
     TABLE

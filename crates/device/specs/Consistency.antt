@@ -18,6 +18,7 @@ use Rattle.parts.specs.declared.frame.NumberAnswer.{NumberAnswer}
 use Rattle.parts.specs.declared.frame.NumberAnswer.the-variants as NumberAnswer
 use Rattle.config.specs.Part.{currentOf, named}
 use Rattle.registers.specs.Addresses.{addressOf, isFdri, isMfwr, isLout, registerAt}
+use Rattle.registers.specs.Codes.{RCRC, DESYNC, LAST}
 use Rattle.config.specs.Registers.{withCrc, hold, fedCrc, written}
 use Rattle.config.specs.Control.{withRegisters, withFlags, withPartial, stopped}
 use Rattle.config.specs.Packets.{operation, count1, typeOf, type1, type2, packet, ready, counted, begin, typeOneWrite, obeyed}
@@ -51,7 +52,7 @@ Sound c = record {
   device : c .device ≤ 7;
   current : currentFits (c .device) (c .current) ≡ true;
   crc : c .registers .crc < 65536;
-  cmd : c .registers .cmd ≤ 13;
+  cmd : c .registers .cmd ≤ LAST;
 }
 
 abbrev pub Consistent : Phase → Control → Type 0
@@ -68,7 +69,7 @@ to-items p c t =
 
 pub from-items : (p : Phase) (c : Control) → Consistent p c → consistent p c ≡ true
 unfolding consistent
-from-items p c k = simp (le-leb (c .device) 7 (k .state .device), k .state .current, lt-ltb (c .registers .crc) 65536 (k .state .crc), le-leb (c .registers .cmd) 13 (k .state .cmd), k .phase)
+from-items p c k = simp (le-leb (c .device) 7 (k .state .device), k .state .current, lt-ltb (c .registers .crc) 65536 (k .state .crc), le-leb (c .registers .cmd) LAST (k .state .cmd), k .phase)
 
 -- a step to a consistent state
 abbrev pub Fine : Fed → Type 0
@@ -102,7 +103,7 @@ written-crc Register.Mfwr w q = refl
 written-crc Register.Flr w q = refl
 written-crc Register.Idcode w q = refl
 
-put-sound : (r : Register) (w : ℕ) (c : Control) → Sound c → written r w (c .registers) .cmd ≤ 13 → Sound (put r w c)
+put-sound : (r : Register) (w : ℕ) (c : Control) → Sound c → written r w (c .registers) .cmd ≤ LAST → Sound (put r w c)
 put-sound r w c s h = record { device = s .device; current = s .current; crc = rw (written-crc r w (c .registers)) (fed-lt r w _ (s .crc)); cmd = h }
 
 -- ---- the phase after one of the words left, of a register other than FDRI and MFWR
@@ -120,16 +121,16 @@ onward-free r left filled c f m h d =
 
 after-fits : (k : ℕ) (p : Phase) (c : Control) (f : Flags) → Free p → phaseFits (phaseAfter k p) (withFlags (signalled k f) c) ≡ true
 unfolding phaseAfter phaseFits signalled desynced
-after-fits k p c f g = go (eqb k 13) refl
+after-fits k p c f g = go (eqb k DESYNC) refl
   where
-    go : (t : Bool) → eqb k 13 ≡ t → phaseFits (phaseAfter k p) (withFlags (signalled k f) c) ≡ true
-    go true e = rw (eqb-true k 13 e)
+    go : (t : Bool) → eqb k DESYNC ≡ t → phaseFits (phaseAfter k p) (withFlags (signalled k f) c) ≡ true
+    go true e = rw (eqb-true k DESYNC e)
     go false e = rw e (g _)
 
 acted-fine : (k : ℕ) (p : Phase) (c : Control) → Sound c → Free p → Fine (acted k p c)
 unfolding acted crcAfter
 acted-fine k p c s g = record {
-  state = record { device = s .device; current = s .current; crc = either (λ (n : ℕ). n < 65536) (eqb k 7) (λ t. omega arith) (λ t. s .crc); cmd = s .cmd };
+  state = record { device = s .device; current = s .current; crc = either (λ (n : ℕ). n < 65536) (eqb k RCRC) (λ t. omega arith) (λ t. s .crc); cmd = s .cmd };
   phase = after-fits k p (withRegisters _ c) (c .flags) g;
 }
 
@@ -219,7 +220,7 @@ module _ (c : Control) (s : Sound c) where
   -- ---- data words
 
   -- a word to a register other than FDRI and MFWR is written, and flags may change
-  put-fine : (r : Register) (left filled w : ℕ) (f : Flags) → isFdri r ≡ false → isMfwr r ≡ false → written r w (c .registers) .cmd ≤ 13
+  put-fine : (r : Register) (left filled w : ℕ) (f : Flags) → isFdri r ≡ false → isMfwr r ≡ false → written r w (c .registers) .cmd ≤ LAST
       → phaseFits (Phase.Data r left filled) c ≡ true → Consistent (onward r left filled) (withFlags f (put r w c))
   put-fine r left filled w f d m k h = record { state = put-sound r w c s k; phase = onward-free r left filled c d m h _ }
 
@@ -231,7 +232,7 @@ module _ (c : Control) (s : Sound c) where
       acted-fine _ _ _ (record { device = s .device; current = named-fits (c .device) w (s .device); crc = q .crc; cmd = s .cmd }) (onward-free Register.Far left filled c refl refl h)
   data-fine Register.Fdri left filled w h = fdri-fine left filled w (to-filling left filled c h)
   data-fine Register.Cmd left filled w h =
-      either Fine (ltb 13 w) (λ t. stop-fine _ c s) (λ t. acted-fine w _ _ (put-sound Register.Cmd w c s (ltb-false 13 w t)) (onward-free Register.Cmd left filled c refl refl h))
+      either Fine (ltb LAST w) (λ t. stop-fine _ c s) (λ t. acted-fine w _ _ (put-sound Register.Cmd w c s (ltb-false LAST w t)) (onward-free Register.Cmd left filled c refl refl h))
   data-fine Register.Ctl left filled w h = put-fine Register.Ctl left filled w _ refl refl (s .cmd) h
   data-fine Register.Mask left filled w h = put-fine Register.Mask left filled w _ refl refl (s .cmd) h
   data-fine Register.Lout left filled w h = put-fine Register.Lout left filled w _ refl refl (s .cmd) h

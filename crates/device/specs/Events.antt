@@ -11,6 +11,7 @@ use Rattle.parts.specs.Cases.{either}
 use Rattle.parts.specs.Device.{idcodeAt, lengthAt, countAt}
 use Rattle.parts.specs.Figures.{figures}
 use Rattle.registers.specs.Addresses.{addressOf}
+use Rattle.registers.specs.Codes.{LAST}
 use Rattle.config.specs.Control.{withPartial}
 use Rattle.config.specs.Packets.{headerWord}
 use Rattle.config.specs.Commands.{acted}
@@ -69,7 +70,7 @@ module _ (c : Control) (w : ℕ) where
   data-asked Register.Fdri left filled =
       either (Asks (Phase.Data Register.Fdri left filled)) (leb left 1) (λ t. (left, refl, refl))
       (λ t. either (Asks (Phase.Data Register.Fdri left filled)) (ltb (filled + 1) (lengthAt (c .device))) (λ t. (left, refl, refl)) (λ t. stored-asked (c .current) refl left filled))
-  data-asked Register.Cmd left filled = either (Asks (Phase.Data Register.Cmd left filled)) (ltb 13 w) (λ t. tt) (λ t. tt)
+  data-asked Register.Cmd left filled = either (Asks (Phase.Data Register.Cmd left filled)) (ltb LAST w) (λ t. tt) (λ t. tt)
   data-asked Register.Ctl left filled = tt
   data-asked Register.Mask left filled = tt
   data-asked Register.Lout left filled = tt

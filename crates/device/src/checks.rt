@@ -6,9 +6,13 @@ use parts::device::frame_count;
 use parts::device::frame_length;
 use parts::device::value_of;
 use registers::Register;
-use registers::address_of;
+use registers::is_fdri;
+use registers::is_mfwr;
 ghost use mathlib.Core.Path.{_≡_};
 ghost use Rattle.device.specs.Consistent.{currentFits, dataFits, phaseFits};
+
+// A count of words has at most 27 bits.
+const GREATEST_COUNT: u32 = 134217727;
 
 pub(crate) fn current_fits(device: u32, current: Current) -> bool
     ensures { λ r. ⌜ r ≡ currentFits device current ⌝ }
@@ -22,8 +26,7 @@ pub(crate) fn current_fits(device: u32, current: Current) -> bool
 fn data_fits(register: Register, left: u32, filled: u32, control: Control) -> bool
     ensures { λ r. ⌜ r ≡ dataFits register left filled control ⌝ }
 {
-    let address = address_of(register);
-    if address == 2 {
+    if is_fdri(register) {
         let length = value_of(frame_length(control.device)) as u64;
         let filled = filled as u64;
         if length <= filled {
@@ -31,7 +34,7 @@ fn data_fits(register: Register, left: u32, filled: u32, control: Control) -> bo
         }
         return (filled + left as u64) % length == 0;
     }
-    if address == 10 {
+    if is_mfwr(register) {
         if 2 < left {
             return false;
         }
@@ -54,7 +57,7 @@ pub(crate) fn phase_fits(phase: Phase, control: Control) -> bool
             if left < 1 {
                 return false;
             }
-            if 134217727 < left {
+            if GREATEST_COUNT < left {
                 return false;
             }
             data_fits(register, left, filled, control)

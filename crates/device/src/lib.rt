@@ -5,15 +5,19 @@ mod power; // power.rt: the record and the memory of a part that was just powere
 use answers::Answer;
 use config::Control;
 use config::Phase;
+use registers::command;
 ghost use mathlib.Core.Path.{_≡_};
 ghost use Rattle.device.specs.Consistent.{consistent};
 ghost use Rattle.device.specs.PowerOn.{powerOn};
 
-// The device record. Of the frame buffer the first L words count.
+// A frame of the greatest part; of the device's part the first L words count.
+pub type FrameBuffer = [u32; 213];
+
+// The device record.
 pub struct Device {
     pub phase: Phase,
     pub control: Control,
-    pub frame: [u32; 213],
+    pub frame: FrameBuffer,
 }
 
 // The record after power-on.
@@ -38,7 +42,7 @@ pub fn consistent(device: Device) -> bool
     if 65536 <= control.registers.crc {
         return false;
     }
-    if 13 < control.registers.cmd {
+    if command::LAST < control.registers.cmd {
         return false;
     }
     checks::phase_fits(phase, control)

@@ -1,4 +1,5 @@
 // Words of an FDRI packet that only fill the frame buffer: a loop that copies no record.
+use device::FrameBuffer;
 ghost use mathlib.Core.Path.{_≡_};
 ghost use Prim.Native.Nat.{_+_, _*_, _≤_};
 ghost use lib.ListN.{length};
@@ -31,7 +32,7 @@ pub(crate) fn word_at(bytes: &[u8], i: usize) -> u32
 
 // Feeds n words from an offset on and keeps them from a place of the buffer on.
 pub(crate) fn fill(
-    frame: &mut [u32; 213],
+    frame: &mut FrameBuffer,
     at: usize,
     crc: u32,
     last: u32,

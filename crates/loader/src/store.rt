@@ -1,5 +1,6 @@
 // The frame buffer and the memory, and what an event does to each.
 use config::Event;
+use device::FrameBuffer;
 ghost use mathlib.Core.Path.{_≡_};
 ghost use Prim.Native.Nat.{_+_, _*_, _≤_};
 ghost use lib.ListN.{length, take, set};
@@ -8,12 +9,12 @@ ghost use Rattle.parts.specs.Memory.{bytesOf};
 ghost use Rattle.loader.specs.Memory.{storeWithin, buffered, stored};
 
 // States that a buffer passed by value has 213 words, which its type tells here; does nothing.
-fn sized(frame: [u32; 213])
+fn sized(frame: FrameBuffer)
     ensures { λ _. ⌜ length frame ≡ 213 ⌝ }
 {}
 
 // States the same of a buffer behind a reference; the copy is never read.
-fn full(frame: &[u32; 213])
+fn full(frame: &FrameBuffer)
     ensures { λ _. ⌜ length (now (frame .entry)) ≡ 213 ⌝ }
 {
     let words = *frame;
@@ -21,7 +22,7 @@ fn full(frame: &[u32; 213])
 }
 
 // Writes the first words of the buffer to the memory, high byte first, from a place on.
-fn write_words(words: usize, at: usize, frame: &[u32; 213], memory: &mut [u8])
+fn write_words(words: usize, at: usize, frame: &FrameBuffer, memory: &mut [u8])
     requires { ⌜ (words ≤ 213) × (at + 4 * words ≤ length (now memory)) ⌝ }
     ensures { λ _. ⌜ now (memory .exit) ≡ sets (now (memory .entry)) at (bytesOf (take words (now (frame .entry)))) ⌝ }
 {
@@ -40,7 +41,7 @@ fn write_words(words: usize, at: usize, frame: &[u32; 213], memory: &mut [u8])
 }
 
 // Stores the first words of the buffer as a frame, where the memory holds that frame.
-fn store_within(words: u32, n: u32, frame: &[u32; 213], memory: &mut [u8])
+fn store_within(words: u32, n: u32, frame: &FrameBuffer, memory: &mut [u8])
     requires { ⌜ words ≤ 213 ⌝ }
     ensures { λ _. ⌜ now (memory .exit) ≡ storeWithin words n (now (frame .entry)) (now (memory .entry)) ⌝ }
 {
@@ -53,7 +54,7 @@ fn store_within(words: u32, n: u32, frame: &[u32; 213], memory: &mut [u8])
 }
 
 // Keeps a word at a place of the buffer.
-fn keep(frame: &mut [u32; 213], at: u32, word: u32)
+fn keep(frame: &mut FrameBuffer, at: u32, word: u32)
     ensures { λ _. ⌜ now (frame .exit) ≡ set (now (frame .entry)) at word ⌝ }
 {
     let i = at as usize;
@@ -65,7 +66,7 @@ fn keep(frame: &mut [u32; 213], at: u32, word: u32)
 }
 
 // What an event does to the buffer and to the memory.
-pub(crate) fn apply(event: Event, words: u32, frame: &mut [u32; 213], memory: &mut [u8])
+pub(crate) fn apply(event: Event, words: u32, frame: &mut FrameBuffer, memory: &mut [u8])
     requires { ⌜ words ≤ 213 ⌝ }
     ensures { λ _. ⌜ now (frame .exit) ≡ buffered event (now (frame .entry)) ⌝ }
     ensures { λ _. ⌜ now (memory .exit) ≡ stored words event (now (frame .entry)) (now (memory .entry)) ⌝ }

@@ -6,6 +6,7 @@ use config::Bytes;
 use config::Control;
 use config::Fed;
 use config::Phase;
+use device::FrameBuffer;
 use registers::Register;
 ghost use mathlib.Core.Path.{_≡_};
 ghost use mathlib.Core.Bool.{true, false};
@@ -30,7 +31,7 @@ pub struct Turned {
 }
 
 // Applies what the control machine made of a word or a byte.
-fn finish(fed: Fed, words: u32, frame: &mut [u32; 213], memory: &mut [u8], taken: usize) -> Turned
+fn finish(fed: Fed, words: u32, frame: &mut FrameBuffer, memory: &mut [u8], taken: usize) -> Turned
     requires { ⌜ words ≤ 213 ⌝ }
     ensures { λ r. ⌜ (r .phase ≡ fed .phase) × (r .control ≡ fed .control) × (r .taken ≡ taken) ⌝ }
     ensures { λ _. ⌜ now (frame .exit) ≡ buffered (fed .event) (now (frame .entry)) ⌝ }
@@ -51,7 +52,7 @@ fn step_byte(
     phase: Phase,
     control: Control,
     words: u32,
-    frame: &mut [u32; 213],
+    frame: &mut FrameBuffer,
     memory: &mut [u8],
     bytes: &[u8],
     i: usize,
@@ -72,7 +73,7 @@ fn step_word(
     phase: Phase,
     control: Control,
     words: u32,
-    frame: &mut [u32; 213],
+    frame: &mut FrameBuffer,
     memory: &mut [u8],
     bytes: &[u8],
     i: usize,
@@ -95,7 +96,7 @@ fn step_fill(
     filled: u32,
     control: Control,
     words: u32,
-    frame: &mut [u32; 213],
+    frame: &mut FrameBuffer,
     bytes: &[u8],
     i: usize,
     n: u32,
@@ -154,7 +155,7 @@ fn step_data(
     filled: u32,
     control: Control,
     words: u32,
-    frame: &mut [u32; 213],
+    frame: &mut FrameBuffer,
     memory: &mut [u8],
     bytes: &[u8],
     i: usize,
@@ -184,7 +185,7 @@ fn step_words(
     phase: Phase,
     control: Control,
     words: u32,
-    frame: &mut [u32; 213],
+    frame: &mut FrameBuffer,
     memory: &mut [u8],
     bytes: &[u8],
     i: usize,
@@ -220,7 +221,7 @@ pub(crate) fn advance(
     phase: Phase,
     control: Control,
     words: u32,
-    frame: &mut [u32; 213],
+    frame: &mut FrameBuffer,
     memory: &mut [u8],
     bytes: &[u8],
     i: usize,

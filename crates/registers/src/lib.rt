@@ -1,4 +1,5 @@
-// The registers of the configuration logic by name and by address.
+// The registers of the configuration logic by name and by address, and the commands by name.
+pub mod command; // command.rt: the codes of the commands
 
 // The registers that can be written (001, Table 1).
 pub enum Register {
@@ -22,7 +23,7 @@ pub enum Open {
 }
 
 ghost use mathlib.Core.Path.{_≡_};
-ghost use Rattle.registers.specs.Addresses.{addressOf, registerAt};
+ghost use Rattle.registers.specs.Addresses.{addressOf, isFdri, isMfwr, isLout, registerAt};
 
 // The address of a register (001, Table 1).
 pub fn address_of(register: Register) -> u32
@@ -41,6 +42,24 @@ pub fn address_of(register: Register) -> u32
         Register::Flr => 11,
         Register::Idcode => 14,
     }
+}
+
+pub fn is_fdri(register: Register) -> bool
+    ensures { λ r. ⌜ r ≡ isFdri register ⌝ }
+{
+    address_of(register) == 2
+}
+
+pub fn is_mfwr(register: Register) -> bool
+    ensures { λ r. ⌜ r ≡ isMfwr register ⌝ }
+{
+    address_of(register) == 10
+}
+
+pub fn is_lout(register: Register) -> bool
+    ensures { λ r. ⌜ r ≡ isLout register ⌝ }
+{
+    address_of(register) == 8
 }
 
 // The register at an address, if there is one and it can be written.

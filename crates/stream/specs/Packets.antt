@@ -7,6 +7,7 @@ use lib.Dec.{eqb}
 use lib.ListN.{length}
 use Rattle.crc16.specs.Register.{feed, fedWords, checkWord}
 use Rattle.registers.specs.Addresses.{addressOf}
+use Rattle.registers.specs.Codes.{RCRC}
 use Rattle.registers.specs.declared.Register.{Register}
 use Rattle.registers.specs.declared.Register.the-variants as Register
 
@@ -29,7 +30,7 @@ pub data Packet : Type 0 where
 -- the CRC after a packet: "RCRC makes the CRC zero", after its word is fed; after a check word, which passes, it is zero too
 unfoldable pub crcOf : ℕ → Packet → ℕ
 crcOf crc (Packet.Write r w) = feed crc (addressOf r) w
-crcOf crc (Packet.Command k) = cond (eqb k 7) 0 (feed crc (addressOf Register.Cmd) k)
+crcOf crc (Packet.Command k) = cond (eqb k RCRC) 0 (feed crc (addressOf Register.Cmd) k)
 crcOf crc Packet.Check = 0
 crcOf crc (Packet.FrameData ws) = 0
 crcOf crc Packet.MultiFrame = fedWords crc (addressOf Register.Mfwr) (0 ∷ 0 ∷ [])

@@ -6,6 +6,7 @@ use lib.ListN.{getD, drop, replicate}
 use Rattle.parts.specs.Device.{idcodeAt, lengthAt}
 use Rattle.parts.specs.Memory.{bytesOf}
 use Rattle.parts.specs.Address.{frameAddress, addressTold}
+use Rattle.registers.specs.Codes.{WCFG, MFWR, RCRC, DESYNC}
 use Rattle.registers.specs.declared.Register.the-variants as Register
 use Rattle.layout.specs.Step.{Step, FrameWrite, MultiFrameWrite}
 use Rattle.stream.specs.Packets.{Packet, packetsWords}
@@ -32,13 +33,13 @@ further d (t ∷ ts) = toFrame d t ∷ Packet.MultiFrame ∷ further d ts
 -- "FAR, CMD MFWR, two zero words to MFWR, then"
 unfoldable pub spreadPackets : ℕ → List ℕ → List Packet
 spreadPackets d [] = []
-spreadPackets d (t ∷ ts) = toFrame d t ∷ Packet.Command 2 ∷ Packet.MultiFrame ∷ further d ts
+spreadPackets d (t ∷ ts) = toFrame d t ∷ Packet.Command MFWR ∷ Packet.MultiFrame ∷ further d ts
 
 -- "Kind 1: CMD WCFG, FAR, FDRI as type 1 of count 0 and type 2, data, one frame of zero words, auto CRC"; "Kind 2: CMD WCFG, FDRI
 -- likewise with one frame, auto CRC," then its targets
 unfoldable pub stepPackets : ℕ → Step → List Packet
-stepPackets d (FrameWrite n fs) = Packet.Command 1 ∷ toFrame d n ∷ Packet.FrameData (framesWords (lengthAt d) fs ++ replicate (lengthAt d) 0) ∷ []
-stepPackets d (MultiFrameWrite x ts) = Packet.Command 1 ∷ Packet.FrameData (wordsFrom (lengthAt d) x) ∷ spreadPackets d ts
+stepPackets d (FrameWrite n fs) = Packet.Command WCFG ∷ toFrame d n ∷ Packet.FrameData (framesWords (lengthAt d) fs ++ replicate (lengthAt d) 0) ∷ []
+stepPackets d (MultiFrameWrite x ts) = Packet.Command WCFG ∷ Packet.FrameData (wordsFrom (lengthAt d) x) ∷ spreadPackets d ts
 
 unfoldable pub stepsPackets : ℕ → List Step → List Packet
 stepsPackets d [] = []
@@ -46,11 +47,11 @@ stepsPackets d (s ∷ ss) = stepPackets d s ++ stepsPackets d ss
 
 -- "CMD RCRC, FLR, IDCODE"
 abbrev pub heading : ℕ → List Packet
-heading d = Packet.Command 7 ∷ Packet.Write Register.Flr (lengthAt d - 1) ∷ Packet.Write Register.Idcode (idcodeAt d) ∷ []
+heading d = Packet.Command RCRC ∷ Packet.Write Register.Flr (lengthAt d - 1) ∷ Packet.Write Register.Idcode (idcodeAt d) ∷ []
 
 -- "a CRC write; CMD DESYNC"
 abbrev pub ending : List Packet
-ending = Packet.Check ∷ Packet.Command 13 ∷ []
+ending = Packet.Check ∷ Packet.Command DESYNC ∷ []
 
 -- "the steps" between the two
 abbrev pub streamPackets : ℕ → List Step → List Packet

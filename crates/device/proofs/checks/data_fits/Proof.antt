@@ -2,14 +2,14 @@
 -- By computation, with the tests that led to each answer.
 use mathlib.Core.Path.{_≡_}
 use borrow.Author.Needs.{needs}
-use borrow.Author.Tests.{eq-eqb, ne-eqb, lt-ltb, le-ltb, le-leb, lt-leb}
+use borrow.Author.Tests.{lt-ltb, le-ltb, le-leb, lt-leb}
 use Rattle.parts.specs.Device.{lengthAt}
 use Rattle.device.specs.Consistent.{dataFits}
 use Rattle.device.proofs.checks.data_fits.Statement.{statement}
 use Rattle.device.proofs.checks.data_fits.Tie as tie
 
-address-of-requires : tie.Need-address-of-requires
-address-of-requires c κs = search needs
+is-fdri-requires : tie.Need-is-fdri-requires
+is-fdri-requires c κs = search needs
 
 frame-length-requires : tie.Need-frame-length-requires
 frame-length-requires c κs = search needs
@@ -27,7 +27,7 @@ length c = rw (c .before .frame-length .ensures) at (c .value-of .ensures)
 returns : tie.Need-returns
 unfolding dataFits
 returns c =
-    simp (← c .before .before .before .before .address-of .ensures, eq-eqb _ _ (c .before .before .before .if1 .taken), ← length (c .before), le-ltb _ _ (c .if2 .taken))
+    simp (← c .before .before .before .before .is-fdri .ensures, c .before .before .before .if1 .taken, ← length (c .before), le-ltb _ _ (c .if2 .taken))
 
 add-result : tie.Need-add-result
 add-result c = search needs
@@ -38,27 +38,30 @@ rem-result c = search needs
 returns-2 : tie.Need-returns-2
 unfolding dataFits
 returns-2 c =
-    simp (← c .before .before .before .before .address-of .ensures, eq-eqb _ _ (c .before .before .before .if1 .taken), ← length (c .before), lt-ltb _ _ (c .if2 .left))
+    simp (← c .before .before .before .before .is-fdri .ensures, c .before .before .before .if1 .taken, ← length (c .before), lt-ltb _ _ (c .if2 .left))
+
+is-mfwr-requires : tie.Need-is-mfwr-requires
+is-mfwr-requires c κs = search needs
 
 returns-3 : tie.Need-returns-3
 unfolding dataFits
 returns-3 c =
-    simp (← c .before .before .before .address-of .ensures, ne-eqb _ _ (c .before .before .if1 .left), eq-eqb _ _ (c .before .if3 .taken), lt-leb _ _ (c .if4 .taken))
+    simp (← c .before .before .before .before .is-fdri .ensures, c .before .before .before .if1 .left, ← c .before .before .is-mfwr .ensures, c .before .if3 .taken, lt-leb _ _ (c .if4 .taken))
 
 returns-4 : tie.Need-returns-4
 unfolding dataFits
 returns-4 c =
-    simp (← c .before .before .before .address-of .ensures, ne-eqb _ _ (c .before .before .if1 .left), eq-eqb _ _ (c .before .if3 .taken), le-leb _ _ (c .if4 .left))
+    simp (← c .before .before .before .before .is-fdri .ensures, c .before .before .before .if1 .left, ← c .before .before .is-mfwr .ensures, c .before .if3 .taken, le-leb _ _ (c .if4 .left))
 
 returns-5 : tie.Need-returns-5
 unfolding dataFits
-returns-5 c = simp (← c .before .before .address-of .ensures, ne-eqb _ _ (c .before .if1 .left), ne-eqb _ _ (c .if3 .left))
+returns-5 c = simp (← c .before .before .before .is-fdri .ensures, c .before .before .if1 .left, ← c .before .is-mfwr .ensures, c .if3 .left)
 
 pub data-fits-spec : {M : Type 1} → statement M
 data-fits-spec =
     tie.close
     (tie.spec
-    address-of-requires
+    is-fdri-requires
     frame-length-requires
     value-of-requires
     cast-length
@@ -66,6 +69,7 @@ data-fits-spec =
     add-result
     rem-result
     returns-2
+    is-mfwr-requires
     returns-3
     returns-4
     returns-5)
