@@ -5,7 +5,7 @@ use mathlib.Core.Bool.{true, false, cond, _&&_, _||_}
 use lib.Dec.{eqb}
 use Rattle.registers.specs.Codes.{LFRM, START, RCRC, AGHIGH, DESYNC}
 use Rattle.config.specs.Registers.{withCrc}
-use Rattle.config.specs.Control.{withRegisters, withFlags, withGhigh, withStartup, fed}
+use Rattle.config.specs.Control.{withRegisters, withFlags, fed}
 use Rattle.config.specs.declared.Bytes.the-variants as Bytes
 use Rattle.config.specs.declared.Flags.{Flags}
 use Rattle.config.specs.declared.Control.{Control}
@@ -14,18 +14,19 @@ use Rattle.config.specs.declared.Phase.the-variants as Phase
 use Rattle.config.specs.declared.Event.the-variants as Event
 use Rattle.config.specs.declared.Fed.{Fed}
 
--- 01: DESYNC: "if a start was pending, a check has passed since, and IDCODE was accepted, the device is started. DESYNC always
--- ends a pending start." Started lasts until power-on.
-unfoldable pub desynced : Flags → Flags
-desynced f = withStartup false (f .checked) (f .started || (f .«start_pending» && f .checked && f .«idcode_ok»)) f
-
--- 01: "AGHIGH and LFRM set and clear GHIGH. START makes a start pending and forgets passed checks."
+-- each flag after command k; 01: "AGHIGH and LFRM set and clear GHIGH. START makes a start pending and forgets passed checks";
+-- DESYNC: "if a start was pending, a check has passed since, and IDCODE was accepted, the device is started. DESYNC always ends a
+-- pending start"; "Started lasts until power-on"
 unfoldable pub signalled : ℕ → Flags → Flags
-signalled k f =
-    cond (eqb k LFRM) (withGhigh false f)
-    (cond (eqb k START) (withStartup true false (f .started) f)
-    (cond (eqb k AGHIGH) (withGhigh true f)
-    (cond (eqb k DESYNC) (desynced f) f)))
+signalled k f = record {
+  «idcode_ok» = f .«idcode_ok»;
+  «flr_ok» = f .«flr_ok»;
+  «buffer_valid» = f .«buffer_valid»;
+  ghigh = cond (eqb k AGHIGH) true (cond (eqb k LFRM) false (f .ghigh));
+  «start_pending» = cond (eqb k START) true (cond (eqb k DESYNC) false (f .«start_pending»));
+  checked = cond (eqb k START) false (f .checked);
+  started = cond (eqb k DESYNC) (f .started || (f .«start_pending» && f .checked && f .«idcode_ok»)) (f .started);
+}
 
 -- 01: "RCRC makes the CRC zero"
 unfoldable pub crcAfter : ℕ → ℕ → ℕ

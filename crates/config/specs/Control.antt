@@ -1,6 +1,9 @@
 -- The control state with one part of it replaced, and what a word can leave: the next phase and state with an event, or a stop.
 -- Source: 01, "Words and packets", first paragraph, and "Stops and refusals".
-use mathlib.Core.Bool.{Bool, true}
+use mathlib.Core.Bool.{true, cond}
+use Rattle.registers.specs.Addresses.{same}
+use Rattle.registers.specs.declared.Register.{Register}
+use Rattle.registers.specs.declared.Register.the-variants as Register
 use Rattle.config.specs.declared.Registers.{Registers}
 use Rattle.config.specs.declared.Flags.{Flags}
 use Rattle.config.specs.declared.Current.{Current}
@@ -33,23 +36,15 @@ fed p c e = record { phase = p; control = c; event = e }
 abbrev pub stopped : Stop → Control → Fed
 stopped s c = fed (Phase.Stopped s) (withPartial Bytes.Zero c) Event.Nothing
 
--- ---- flags with one of them replaced
-
-abbrev pub withIdcodeOk : Flags → Flags
-withIdcodeOk f = record { «idcode_ok» = true; «flr_ok» = f .«flr_ok»; «buffer_valid» = f .«buffer_valid»; ghigh = f .ghigh; «start_pending» = f .«start_pending»; checked = f .checked; started = f .started }
-
-abbrev pub withFlrOk : Flags → Flags
-withFlrOk f = record { «idcode_ok» = f .«idcode_ok»; «flr_ok» = true; «buffer_valid» = f .«buffer_valid»; ghigh = f .ghigh; «start_pending» = f .«start_pending»; checked = f .checked; started = f .started }
-
-abbrev pub withBufferValid : Flags → Flags
-withBufferValid f = record { «idcode_ok» = f .«idcode_ok»; «flr_ok» = f .«flr_ok»; «buffer_valid» = true; ghigh = f .ghigh; «start_pending» = f .«start_pending»; checked = f .checked; started = f .started }
-
-abbrev pub withGhigh : Bool → Flags → Flags
-withGhigh g f = record { «idcode_ok» = f .«idcode_ok»; «flr_ok» = f .«flr_ok»; «buffer_valid» = f .«buffer_valid»; ghigh = g; «start_pending» = f .«start_pending»; checked = f .checked; started = f .started }
-
-abbrev pub withChecked : Flags → Flags
-withChecked f = record { «idcode_ok» = f .«idcode_ok»; «flr_ok» = f .«flr_ok»; «buffer_valid» = f .«buffer_valid»; ghigh = f .ghigh; «start_pending» = f .«start_pending»; checked = true; started = f .started }
-
--- pending, checked, started
-abbrev pub withStartup : Bool → Bool → Bool → Flags → Flags
-withStartup p k s f = record { «idcode_ok» = f .«idcode_ok»; «flr_ok» = f .«flr_ok»; «buffer_valid» = f .«buffer_valid»; ghigh = f .ghigh; «start_pending» = p; checked = k; started = s }
+-- each flag after a word to register r that raises one: IDCODE and FLR when they are accepted, FDRI at a packet's last word ("from
+-- its last word until power-on a frame is in hand"), CRC when the check passes
+unfoldable pub raised : Register → Flags → Flags
+raised r f = record {
+  «idcode_ok» = cond (same Register.Idcode r) true (f .«idcode_ok»);
+  «flr_ok» = cond (same Register.Flr r) true (f .«flr_ok»);
+  «buffer_valid» = cond (same Register.Fdri r) true (f .«buffer_valid»);
+  ghigh = f .ghigh;
+  «start_pending» = f .«start_pending»;
+  checked = cond (same Register.Crc r) true (f .checked);
+  started = f .started;
+}

@@ -1,16 +1,16 @@
 -- No word and no byte changes the device number, or clears started, buffer_valid, idcode_ok or flr_ok.
 -- By the cases of each definition: every outcome leaves the device and either leaves the four flags or sets one of them.
 use mathlib.Core.Path.{_≡_, _∙_, refl, ap}
-use mathlib.Core.Bool.{Bool, true, _||_}
+use mathlib.Core.Bool.{Bool, true, cond, _||_}
 use Prim.Native.Nat.{ℕ, _+_}
 use lib.Dec.{eqb, leb, ltb}
 use Rattle.parts.specs.Cases.{either}
 use Rattle.parts.specs.Device.{idcodeAt, lengthAt}
-use Rattle.registers.specs.Addresses.{registerAt}
-use Rattle.registers.specs.Codes.{LFRM, START, AGHIGH, DESYNC, LAST}
-use Rattle.config.specs.Control.{withPartial}
+use Rattle.registers.specs.Addresses.{same, registerAt}
+use Rattle.registers.specs.Codes.{DESYNC, LAST}
+use Rattle.config.specs.Control.{withPartial, raised}
 use Rattle.config.specs.Packets.{ready, counted, begin, typeOneWrite, obeyed, packet, headerWord}
-use Rattle.config.specs.Commands.{desynced, signalled, acted}
+use Rattle.config.specs.Commands.{signalled, acted}
 use Rattle.config.specs.Words.{checked, farWord, cmdWord, frameStored, fdriWord, mfwrStored, mfwrWord, idcodeWord, flrWord, dataWord, word}
 use Rattle.config.specs.Bytes.{gathered, wordOf, byte}
 use Rattle.registers.specs.declared.Register.{Register}
@@ -66,18 +66,26 @@ or-left : (a b : Bool) → a ≡ true → (a || b) ≡ true
 or-left a b h = rw h
 
 pub signalled-grown : (k : ℕ) (f : Flags) → Grown f (signalled k f)
-unfolding signalled desynced
-signalled-grown k f =
-    either (Grown f) (eqb k LFRM) (λ h. grown-refl f)
-    (λ h. either (Grown f) (eqb k START) (λ h. grown-refl f)
-    (λ h. either (Grown f) (eqb k AGHIGH) (λ h. grown-refl f)
-    (λ h. either (Grown f) (eqb k DESYNC) (λ h. record { started = or-left _ _; buffer-valid = λ h. h; idcode-ok = λ h. h; flr-ok = λ h. h }) (λ h. grown-refl f))))
+unfolding signalled
+signalled-grown k f = record {
+  started = λ h. either (λ (b : Bool). b ≡ true) (eqb k DESYNC) (λ e. or-left _ _ h) (λ e. h);
+  buffer-valid = λ h. h;
+  idcode-ok = λ h. h;
+  flr-ok = λ h. h;
+}
 
 pub acted-keeps : (k : ℕ) (p : Phase) (c : Control) → Kept c (acted k p c .control)
 unfolding acted
 acted-keeps k p c = record { device = refl; flags = signalled-grown k (c .flags) }
 
 -- ---- words
+
+set-stays : (t a : Bool) → a ≡ true → cond t true a ≡ true
+set-stays t a h = either (λ (b : Bool). b ≡ true) t (λ e. refl) (λ e. h)
+
+pub raised-grown : (r : Register) (f : Flags) → Grown f (raised r f)
+unfolding raised
+raised-grown r f = record { started = λ h. h; buffer-valid = set-stays (same Register.Fdri r) _; idcode-ok = set-stays (same Register.Idcode r) _; flr-ok = set-stays (same Register.Flr r) _ }
 
 module _ (c : Control) where
   abbrev Keeping : Fed → Type 0
@@ -114,7 +122,7 @@ module _ (c : Control) where
 
   crc-keeps : (v : ℕ) (p : Phase) → Keeping (checked v p c)
   unfolding checked
-  crc-keeps v p = either Keeping (eqb v 0) (λ h. kept-refl c) (λ h. kept-refl c)
+  crc-keeps v p = either Keeping (eqb v 0) (λ h. record { device = refl; flags = raised-grown Register.Crc (c .flags) }) (λ h. kept-refl c)
 
   stored-keeps : (n : Current) (left filled w : ℕ) → Keeping (frameStored n left filled c w)
   unfolding frameStored
@@ -124,7 +132,7 @@ module _ (c : Control) where
   fdri-keeps : (left filled w : ℕ) → Keeping (fdriWord left filled c w)
   unfolding fdriWord
   fdri-keeps left filled w =
-      either Keeping (leb left 1) (λ h. record { device = refl; flags = record { started = λ h. h; buffer-valid = λ h. refl; idcode-ok = λ h. h; flr-ok = λ h. h } })
+      either Keeping (leb left 1) (λ h. record { device = refl; flags = raised-grown Register.Fdri (c .flags) })
       (λ h. either Keeping (ltb (filled + 1) (lengthAt (c .device))) (λ h. kept-refl c) (λ h. stored-keeps (c .current) left filled w))
 
   second-keeps : (n : Current) (w : ℕ) → Keeping (mfwrStored n c w)
@@ -144,13 +152,9 @@ module _ (c : Control) where
   data-keeps Register.Cor left filled w = kept-refl c
   data-keeps Register.Mfwr left filled w = either Keeping (leb left 1) (λ h. second-keeps (c .current) w) (λ h. kept-refl c)
   data-keeps Register.Flr left filled w =
-      either Keeping (eqb (w + 1) (lengthAt (c .device)))
-      (λ h. record { device = refl; flags = record { started = λ h. h; buffer-valid = λ h. h; idcode-ok = λ h. h; flr-ok = λ h. refl } })
-      (λ h. kept-refl c)
+      either Keeping (eqb (w + 1) (lengthAt (c .device))) (λ h. record { device = refl; flags = raised-grown Register.Flr (c .flags) }) (λ h. kept-refl c)
   data-keeps Register.Idcode left filled w =
-      either Keeping (eqb w (idcodeAt (c .device)))
-      (λ h. record { device = refl; flags = record { started = λ h. h; buffer-valid = λ h. h; idcode-ok = λ h. refl; flr-ok = λ h. h } })
-      (λ h. kept-refl c)
+      either Keeping (eqb w (idcodeAt (c .device))) (λ h. record { device = refl; flags = raised-grown Register.Idcode (c .flags) }) (λ h. kept-refl c)
 
 pub word-keeps : (p : Phase) (c : Control) (w : ℕ) → Kept c (word p c w .control)
 unfolding word

@@ -6,4 +6,5 @@ pub mod Commands
 pub mod Words
 pub mod Bytes
 pub mod Keeps
+pub mod Staying
 pub mod Stopping

@@ -9,7 +9,7 @@ use Rattle.config.specs.Part.{named}
 use Rattle.registers.specs.Addresses.{isFdri}
 use Rattle.registers.specs.Codes.{LAST}
 use Rattle.config.specs.Registers.{withCrc, written}
-use Rattle.config.specs.Control.{withRegisters, withFlags, withCurrent, withIdcodeOk, withFlrOk, withBufferValid, withChecked, fed, stopped}
+use Rattle.config.specs.Control.{withRegisters, withFlags, withCurrent, raised, fed, stopped}
 use Rattle.config.specs.Packets.{headerWord}
 use Rattle.config.specs.Commands.{acted}
 use Rattle.registers.specs.declared.Register.{Register}
@@ -45,7 +45,7 @@ put r w c = withRegisters (written r w (c .registers)) c
 -- 01: "the check passes if the register is then zero"; at stop 8 "it is fed first, and the CRC stays as it then is"
 unfoldable pub checked : ℕ → Phase → Control → Fed
 checked v p c =
-    cond (eqb v 0) (fed p (withFlags (withChecked (c .flags)) (withRegisters (withCrc v (c .registers)) c)) Event.Nothing)
+    cond (eqb v 0) (fed p (withFlags (raised Register.Crc (c .flags)) (withRegisters (withCrc v (c .registers)) c)) Event.Nothing)
     (stopped Stop.CrcMismatch (withRegisters (withCrc v (c .registers)) c))
 
 abbrev pub crcWord : Phase → Control → ℕ → Fed
@@ -76,7 +76,7 @@ frameStored Current.NoFrame left filled c w = stopped Stop.NoCurrentFrame c
 -- power-on a frame is in hand."
 unfoldable pub fdriWord : ℕ → ℕ → Control → ℕ → Fed
 fdriWord left filled c w =
-    cond (leb left 1) (fed (ended Register.Fdri) (withFlags (withBufferValid (c .flags)) (put Register.Fdri w c)) (Event.Keep filled w))
+    cond (leb left 1) (fed (ended Register.Fdri) (withFlags (raised Register.Fdri (c .flags)) (put Register.Fdri w c)) (Event.Keep filled w))
     (cond (ltb (filled + 1) (lengthAt (c .device))) (fed (Phase.Data Register.Fdri (left - 1) (filled + 1)) (put Register.Fdri w c) (Event.Keep filled w))
     (frameStored (c .current) left filled c w))
 
@@ -93,11 +93,11 @@ mfwrWord left filled c w =
 
 -- 01, stop 4: "IDCODE word not the part's"
 unfoldable pub idcodeWord : Phase → Control → ℕ → Fed
-idcodeWord p c w = cond (eqb w (idcodeAt (c .device))) (fed p (withFlags (withIdcodeOk (c .flags)) (put Register.Idcode w c)) Event.Nothing) (stopped Stop.WrongIdcode c)
+idcodeWord p c w = cond (eqb w (idcodeAt (c .device))) (fed p (withFlags (raised Register.Idcode (c .flags)) (put Register.Idcode w c)) Event.Nothing) (stopped Stop.WrongIdcode c)
 
 -- 01, stop 5: "FLR word not L-1"
 unfoldable pub flrWord : Phase → Control → ℕ → Fed
-flrWord p c w = cond (eqb (w + 1) (lengthAt (c .device))) (fed p (withFlags (withFlrOk (c .flags)) (put Register.Flr w c)) Event.Nothing) (stopped Stop.WrongFrameLength c)
+flrWord p c w = cond (eqb (w + 1) (lengthAt (c .device))) (fed p (withFlags (raised Register.Flr (c .flags)) (put Register.Flr w c)) Event.Nothing) (stopped Stop.WrongFrameLength c)
 
 -- ---- a word in each phase
 

@@ -11,11 +11,12 @@ use registers::command::LFRM;
 use registers::command::RCRC;
 use registers::command::START;
 ghost use mathlib.Core.Path.{_≡_};
-ghost use Rattle.config.specs.Commands.{desynced, signalled, crcAfter, phaseAfter, acted};
+ghost use Rattle.registers.specs.Codes.{DESYNC};
+ghost use Rattle.config.specs.Commands.{signalled, crcAfter, phaseAfter, acted};
 
 // DESYNC ends a pending start; the device starts if a check has passed since and the IDCODE was accepted.
 fn desynced(flags: Flags) -> Flags
-    ensures { λ r. ⌜ r ≡ desynced flags ⌝ }
+    ensures { λ r. ⌜ r ≡ signalled DESYNC flags ⌝ }
 {
     let mut f = flags;
     f.start_pending = false;

@@ -22,7 +22,7 @@ use Rattle.registers.specs.Codes.{RCRC, DESYNC, LAST}
 use Rattle.config.specs.Registers.{withCrc, hold, fedCrc, written}
 use Rattle.config.specs.Control.{withRegisters, withFlags, withPartial, stopped}
 use Rattle.config.specs.Packets.{operation, count1, typeOf, type1, type2, packet, ready, counted, begin, typeOneWrite, obeyed}
-use Rattle.config.specs.Commands.{desynced, signalled, crcAfter, phaseAfter, acted}
+use Rattle.config.specs.Commands.{signalled, crcAfter, phaseAfter, acted}
 use Rattle.config.specs.Words.{ended, onward, put, checked, crcWord, farWord, cmdWord, stepped, frameStored, fdriWord, mfwrStored, mfwrWord, idcodeWord, flrWord, dataWord, word}
 use Rattle.config.specs.Bytes.{isSync, hunted, gathered, byte}
 use Rattle.device.specs.Consistent.{currentFits, dataFits, phaseFits, consistent}
@@ -91,17 +91,7 @@ fed-lt r w v h = either (λ (n : ℕ). n < 65536) (isLout r) (λ t. h) (λ t. fe
 
 written-crc : (r : Register) (w : ℕ) (q : Registers) → written r w q .crc ≡ fedCrc r w (q .crc)
 unfolding hold
-written-crc Register.Crc w q = refl
-written-crc Register.Far w q = refl
-written-crc Register.Fdri w q = refl
-written-crc Register.Cmd w q = refl
-written-crc Register.Ctl w q = refl
-written-crc Register.Mask w q = refl
-written-crc Register.Lout w q = refl
-written-crc Register.Cor w q = refl
-written-crc Register.Mfwr w q = refl
-written-crc Register.Flr w q = refl
-written-crc Register.Idcode w q = refl
+written-crc r w q = refl
 
 put-sound : (r : Register) (w : ℕ) (c : Control) → Sound c → written r w (c .registers) .cmd ≤ LAST → Sound (put r w c)
 put-sound r w c s h = record { device = s .device; current = s .current; crc = rw (written-crc r w (c .registers)) (fed-lt r w _ (s .crc)); cmd = h }
@@ -120,7 +110,7 @@ onward-free r left filled c f m h d =
 -- ---- commands
 
 after-fits : (k : ℕ) (p : Phase) (c : Control) (f : Flags) → Free p → phaseFits (phaseAfter k p) (withFlags (signalled k f) c) ≡ true
-unfolding phaseAfter phaseFits signalled desynced
+unfolding phaseAfter phaseFits signalled
 after-fits k p c f g = go (eqb k DESYNC) refl
   where
     go : (t : Bool) → eqb k DESYNC ≡ t → phaseFits (phaseAfter k p) (withFlags (signalled k f) c) ≡ true
@@ -188,7 +178,7 @@ stepped-fits d n = either (λ (q : Current). currentFits d q ≡ true) (ltb (n +
 
 module _ (c : Control) (s : Sound c) where
   stored-fine : (n : Current) (left filled w : ℕ) → Filling (left - 1) 0 (lengthAt (c .device)) → Fine (frameStored n left filled c w)
-  unfolding frameStored hold
+  unfolding frameStored hold addressOf
   stored-fine (Current.Frame n) left filled w k =
       let q = put-sound Register.Fdri w c s (s .cmd) in
       record { state = record { device = s .device; current = stepped-fits (c .device) n; crc = q .crc; cmd = s .cmd }; phase = from-filling (left - 1) 0 _ k }

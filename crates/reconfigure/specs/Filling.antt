@@ -16,7 +16,7 @@ use Rattle.registers.specs.Addresses.{addressOf}
 use Rattle.registers.specs.declared.Register.the-variants as Register
 use Rattle.registers.specs.declared.Open.the-variants as Open
 use Rattle.config.specs.Registers.{fedCrc, hold}
-use Rattle.config.specs.Control.{fed, withFlags, withCurrent, withBufferValid}
+use Rattle.config.specs.Control.{fed, withFlags, withCurrent, raised}
 use Rattle.config.specs.Words.{ended, put, checked, stepped, frameStored, fdriWord, dataWord, word}
 use Rattle.config.specs.declared.Control.{Control}
 use Rattle.config.specs.declared.Current.{Current}
@@ -46,7 +46,7 @@ unfolding word dataWord fdriWord frameStored
 stores left filled c w n hl hf at = simp (lt-leb left 1 hl, le-ltb (filled + 1) (lengthAt (c .device)) (omega arith), at)
 
 ends : (left filled : ℕ) (c : Control) (w : ℕ) → left ≡ 1
-    → word (Phase.Data Register.Fdri left filled) c w ≡ fed Phase.Crc (withFlags (withBufferValid (c .flags)) (put Register.Fdri w c)) (Event.Keep filled w)
+    → word (Phase.Data Register.Fdri left filled) c w ≡ fed Phase.Crc (withFlags (raised Register.Fdri (c .flags)) (put Register.Fdri w c)) (Event.Keep filled w)
 unfolding word dataWord fdriWord ended addressOf
 ends left filled c w hl = simp (le-leb left 1 (omega arith))
 
@@ -98,7 +98,7 @@ module _ (d v k left filled w : ℕ) (b : Bool) (buffer m : List ℕ) (small : w
   -- it completes the packet's last frame, which is in hand from here on
   pub last-word : (n : Current) → left ≡ 1 → filled < lengthAt d
       → Leads (filling left filled d v k n b buffer) m (w ∷ []) (checking d (feed v 2 w) k n true (set buffer filled w)) m
-  unfolding takesWords hold fedCrc addressOf buffered stored
+  unfolding takesWords hold fedCrc raised addressOf buffered stored
   last-word n hl hf =
       record {
         from = λ e h.
@@ -106,7 +106,7 @@ module _ (d v k left filled w : ℕ) (b : Bool) (buffer m : List ℕ) (small : w
             let words = kept-words (lengthAt (e .control .device)) filled w (e .frame) buffer (rw device hf) (ap (λ (s : State). s .words) h) in
             let c = put Register.Fdri w (e .control) in
             record {
-              next = record { phase = Phase.Crc; control = withFlags (withBufferValid (c .flags)) c; frame = set (e .frame) filled w };
+              next = record { phase = Phase.Crc; control = withFlags (raised Register.Fdri (c .flags)) c; frame = set (e .frame) filled w };
               goes = word-goes e m w _ h refl small (ends left filled (e .control) w hl);
               seen = rw (words, length-set) (ap (λ (s : State). moved Phase.Crc (feed (s .crc) 2 w) (s .cmd) (s .current) true (set buffer filled w) s) h);
             };
@@ -114,7 +114,7 @@ module _ (d v k left filled w : ℕ) (b : Bool) (buffer m : List ℕ) (small : w
 
 -- the auto CRC word, which passes
 pub auto-leads : (d v k : ℕ) (n : Current) (b : Bool) (buffer m : List ℕ) → Leads (checking d v k n b buffer) m (checkWord v ∷ []) (waiting d 0 k n b buffer) m
-unfolding takesWords word checked buffered stored
+unfolding takesWords word checked raised addressOf buffered stored
 auto-leads d v k n b buffer m =
     record {
       from = λ e h.

@@ -14,11 +14,12 @@ use Rattle.parts.specs.Figures.{figures, length-fits, idcode-fits}
 use Rattle.parts.specs.Memory.{bytesOf}
 use Rattle.parts.specs.Bytes.{bytes-length}
 use Rattle.registers.specs.Addresses.{addressOf}
+use Rattle.registers.specs.Codes.{RCRC, DESYNC}
 use Rattle.registers.specs.declared.Register.the-variants as Register
 use Rattle.registers.specs.declared.Open.the-variants as Open
 use Rattle.config.specs.Registers.{withCrc, fedCrc, hold}
-use Rattle.config.specs.Control.{withRegisters, withFlags, withPartial, withIdcodeOk, withFlrOk, fed}
-use Rattle.config.specs.Commands.{desynced, signalled, crcAfter as crcActed, phaseAfter, acted}
+use Rattle.config.specs.Control.{withRegisters, withFlags, withPartial, raised, fed}
+use Rattle.config.specs.Commands.{signalled, crcAfter as crcActed, phaseAfter, acted}
 use Rattle.config.specs.Words.{ended, onward, put, idcodeWord, flrWord, dataWord}
 use Rattle.config.specs.declared.Bytes.{Bytes}
 use Rattle.config.specs.declared.Bytes.the-variants as Bytes
@@ -49,17 +50,17 @@ use Rattle.reconfigure.specs.Sync.{hunt-ends}
 
 -- the control state after each
 abbrev reset : Control → Control
-reset c = withRegisters (withCrc 0 (put Register.Cmd 7 c .registers)) (put Register.Cmd 7 c)
+reset c = withRegisters (withCrc 0 (put Register.Cmd RCRC c .registers)) (put Register.Cmd RCRC c)
 
 abbrev sized : ℕ → Control → Control
-sized w c = withFlags (withFlrOk (c .flags)) (put Register.Flr w c)
+sized w c = withFlags (raised Register.Flr (c .flags)) (put Register.Flr w c)
 
 abbrev identified : ℕ → Control → Control
-identified w c = withFlags (withIdcodeOk (c .flags)) (put Register.Idcode w c)
+identified w c = withFlags (raised Register.Idcode (c .flags)) (put Register.Idcode w c)
 
-reset-word : (c : Control) → dataWord Register.Cmd 1 0 c 7 ≡ fed (Phase.Header Open.Closed) (reset c) Event.Nothing
+reset-word : (c : Control) → dataWord Register.Cmd 1 0 c RCRC ≡ fed (Phase.Header Open.Closed) (reset c) Event.Nothing
 unfolding acted signalled crcActed phaseAfter
-reset-word c = command-word 7 c (omega arith)
+reset-word c = command-word RCRC c (omega arith)
 
 sized-word : (c : Control) (w : ℕ) → w + 1 ≡ lengthAt (c .device) → dataWord Register.Flr 1 0 c w ≡ fed (Phase.Header Open.Closed) (sized w c) Event.Nothing
 unfolding dataWord flrWord onward ended addressOf
@@ -77,26 +78,26 @@ module _ (d : ℕ) (known : d ≤ 7) (c : Control) (f m : List ℕ) (at : c .dev
   unfolding packetsWords packetWords buffered stored addressOf
   heading-goes =
       let some = figures d known .length-positive in
-      goes-on (write-goes (device (Phase.Header Open.Closed) c f) m Register.Cmd 7 _ (refl, refl) refl empty (omega arith) (reset-word c))
+      goes-on (write-goes (device (Phase.Header Open.Closed) c f) m Register.Cmd RCRC _ (refl, refl) refl empty (omega arith) (reset-word c))
       (goes-on (write-goes (device (Phase.Header Open.Closed) (reset c) f) m Register.Flr (lengthAt d - 1) _ (refl, refl) refl empty
       (omega (arith, length-fits d)) (sized-word (reset c) (lengthAt d - 1) (rw at (omega arith))))
       (goes-on (write-goes (device (Phase.Header Open.Closed) (sized (lengthAt d - 1) (reset c)) f) m Register.Idcode (idcodeAt d) _ (refl, refl) refl empty
       (omega (arith, idcode-fits d)) (identified-word (sized (lengthAt d - 1) (reset c)) (idcodeAt d) (ap idcodeAt (sym at)))) goes-none))
 
   heading-seen : length f ≡ 213
-      → view (device (Phase.Header Open.Closed) opened f) ≡ waiting d (crcAfter 0 (heading d)) 7 (c .current) (c .flags .«buffer_valid») (take (lengthAt d) f)
-  unfolding crcAfter crcOf hold fedCrc addressOf
+      → view (device (Phase.Header Open.Closed) opened f) ≡ waiting d (crcAfter 0 (heading d)) RCRC (c .current) (c .flags .«buffer_valid») (take (lengthAt d) f)
+  unfolding crcAfter crcOf hold fedCrc raised addressOf
   heading-seen full = rw (at, empty, full)
 
 -- ---- the two that end it
 
 -- DESYNC
 abbrev dismissed : Control → Control
-dismissed c = withFlags (desynced (c .flags)) (put Register.Cmd 13 c)
+dismissed c = withFlags (signalled DESYNC (c .flags)) (put Register.Cmd DESYNC c)
 
-desync-word : (c : Control) → dataWord Register.Cmd 1 0 c 13 ≡ fed (Phase.Hunting Bytes.Zero) (dismissed c) Event.Nothing
+desync-word : (c : Control) → dataWord Register.Cmd 1 0 c DESYNC ≡ fed (Phase.Hunting Bytes.Zero) (dismissed c) Event.Nothing
 unfolding acted signalled crcActed phaseAfter
-desync-word c = command-word 13 c (omega arith)
+desync-word c = command-word DESYNC c (omega arith)
 
 -- the words lead to a record that hunts with no bytes remembered
 pub record Ended (e : Device) (m ws k : List ℕ) : Type 0 where
@@ -112,7 +113,7 @@ ending-goes d v k n b buffer m e h =
     let empty = ap (λ (s : State). s .partial) (checked .seen) in
     record {
       next = device (Phase.Hunting Bytes.Zero) (dismissed (checked .next .control)) (checked .next .frame);
-      goes = goes-on (checked .goes) (goes-on (write-goes (checked .next) m Register.Cmd 13 _ (refl, refl) (ap (λ (s : State). s .phase) (checked .seen)) empty (omega arith)
+      goes = goes-on (checked .goes) (goes-on (write-goes (checked .next) m Register.Cmd DESYNC _ (refl, refl) (ap (λ (s : State). s .phase) (checked .seen)) empty (omega arith)
           (desync-word (checked .next .control))) goes-none);
       hunts = refl;
       empty = empty;

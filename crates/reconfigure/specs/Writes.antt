@@ -9,11 +9,12 @@ use borrow.Author.Tests.{le-ltb}
 use Rattle.crc16.specs.Register.{feed, checkWord}
 use Rattle.crc16.specs.CheckWord.{check-word-passes, check-word-small}
 use Rattle.registers.specs.Addresses.{addressOf}
+use Rattle.registers.specs.Codes.{WCFG, MFWR, LAST}
 use Rattle.registers.specs.declared.Register.the-variants as Register
 use Rattle.registers.specs.declared.Open.the-variants as Open
 use Rattle.config.specs.Part.{named}
 use Rattle.config.specs.Registers.{withCrc, fedCrc, hold}
-use Rattle.config.specs.Control.{fed, withRegisters, withFlags, withCurrent, withChecked}
+use Rattle.config.specs.Control.{fed, withRegisters, withFlags, withCurrent, raised}
 use Rattle.config.specs.Commands.{signalled, crcAfter, phaseAfter, acted}
 use Rattle.config.specs.Words.{ended, onward, put, checked, farWord, cmdWord, dataWord}
 use Rattle.config.specs.declared.Control.{Control}
@@ -28,27 +29,27 @@ use Rattle.reconfigure.specs.State.{State, waiting, moved, Leads}
 
 -- a check passed: the CRC is zero
 abbrev pub passed : Control → Control
-passed c = withFlags (withChecked (c .flags)) (withRegisters (withCrc 0 (c .registers)) c)
+passed c = withFlags (raised Register.Crc (c .flags)) (withRegisters (withCrc 0 (c .registers)) c)
 
 -- ---- commands that act on nothing
 
 pub record Quiet (k : ℕ) : Type 0 where
-  pub known : k ≤ 13
+  pub known : k ≤ LAST
   pub idle : (p : Phase) (c : Control) → acted k p c ≡ fed p c Event.Nothing
   pub fed-on : (v : ℕ) → crcOf v (Packet.Command k) ≡ feed v 4 k
 
-pub wcfg-quiet : Quiet 1
+pub wcfg-quiet : Quiet WCFG
 unfolding acted signalled crcAfter phaseAfter crcOf addressOf
 wcfg-quiet = record { known = omega arith; idle = λ p c. refl; fed-on = λ v. refl }
 
-pub mfwr-quiet : Quiet 2
+pub mfwr-quiet : Quiet MFWR
 unfolding acted signalled crcAfter phaseAfter crcOf addressOf
 mfwr-quiet = record { known = omega arith; idle = λ p c. refl; fed-on = λ v. refl }
 
 -- what the control machine makes of a command
-pub command-word : (k : ℕ) (c : Control) → k ≤ 13 → dataWord Register.Cmd 1 0 c k ≡ acted k (Phase.Header Open.Closed) (put Register.Cmd k c)
+pub command-word : (k : ℕ) (c : Control) → k ≤ LAST → dataWord Register.Cmd 1 0 c k ≡ acted k (Phase.Header Open.Closed) (put Register.Cmd k c)
 unfolding dataWord cmdWord onward ended addressOf
-command-word k c known = simp (le-ltb 13 k known)
+command-word k c known = simp (le-ltb LAST k known)
 
 -- ---- from a state to the next
 
@@ -85,7 +86,7 @@ module _ (d v k : ℕ) (n : Current) (b : Bool) (ws m : List ℕ) where
 
   -- the word that passes the check
   pub check-leads : Leads (waiting d v k n b ws) m (packetWords v Packet.Check) (waiting d 0 k n b ws) m
-  unfolding packetWords dataWord checked onward ended addressOf buffered stored
+  unfolding packetWords dataWord checked raised onward ended addressOf buffered stored
   check-leads =
       record {
         from = λ e h.

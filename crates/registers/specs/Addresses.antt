@@ -24,6 +24,10 @@ addressOf Register.Mfwr = 10
 addressOf Register.Flr = 11
 addressOf Register.Idcode = 14
 
+-- two registers are one
+abbrev pub same : Register → Register → Bool
+same x r = eqb (addressOf x) (addressOf r)
+
 abbrev pub isFdri : Register → Bool
 isFdri r = eqb (addressOf r) 2
 

@@ -2,6 +2,8 @@
 -- By the contracts of the calls, with the test that led to each answer.
 use borrow.Author.Needs.{needs}
 use borrow.Author.Tests.{eq-eqb, ne-eqb}
+use Rattle.registers.specs.Addresses.{addressOf}
+use Rattle.config.specs.Control.{raised}
 use Rattle.config.specs.Words.{checked}
 use Rattle.config.proofs.data.crc_word.Statement.{statement}
 use Rattle.config.proofs.data.crc_word.Tie as tie
@@ -28,7 +30,7 @@ going-requires : tie.Need-going-requires
 going-requires c κs = search needs
 
 returns-2 : tie.Need-returns-2
-unfolding checked
+unfolding checked raised addressOf
 returns-2 c =
     let d = c .before .before .before in
     let e = d .before .before in

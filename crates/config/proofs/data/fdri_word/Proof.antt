@@ -2,6 +2,8 @@
 -- By the contracts of the calls, with the tests that led to each answer.
 use borrow.Author.Needs.{needs}
 use borrow.Author.Tests.{lt-ltb, le-ltb, le-leb, lt-leb}
+use Rattle.registers.specs.Addresses.{addressOf}
+use Rattle.config.specs.Control.{raised}
 use Rattle.config.specs.Words.{fdriWord}
 use Rattle.config.proofs.data.fdri_word.Statement.{statement}
 use Rattle.config.proofs.data.fdri_word.Tie as tie
@@ -16,7 +18,7 @@ with-flags-requires : tie.Need-with-flags-requires
 with-flags-requires c κs = search needs
 
 returns : tie.Need-returns
-unfolding fdriWord
+unfolding fdriWord raised addressOf
 returns c = simp (c .with-flags .ensures, c .before .put .ensures, c .before .before .ended .ensures, le-leb _ _ (c .before .before .before .before .if1 .taken))
 
 length-at-requires : tie.Need-length-at-requires

@@ -2,6 +2,8 @@
 -- By the contracts of the calls, with the test that led to each answer.
 use borrow.Author.Needs.{needs}
 use borrow.Author.Tests.{eq-eqb, ne-eqb}
+use Rattle.registers.specs.Addresses.{addressOf}
+use Rattle.config.specs.Control.{raised}
 use Rattle.config.specs.Words.{flrWord}
 use Rattle.config.proofs.data.flr_word.Statement.{statement}
 use Rattle.config.proofs.data.flr_word.Tie as tie
@@ -32,7 +34,7 @@ going-requires : tie.Need-going-requires
 going-requires c κs = search needs
 
 returns-2 : tie.Need-returns-2
-unfolding flrWord
+unfolding flrWord raised addressOf
 returns-2 c =
     let d = c .before .before .before .before in
     simp (c .going .ensures, c .before .with-flags .ensures, c .before .before .put .ensures, ← d .before .length-at .ensures, eq-eqb _ _ (d .if1 .left))

@@ -1,6 +1,7 @@
 -- `config::writes::hold` meets its contract: the word stands in its register.
 -- By computation, once the register is known.
 use borrow.Author.Needs.{needs}
+use Rattle.registers.specs.Addresses.{addressOf}
 use Rattle.config.specs.Registers.{hold}
 use Rattle.config.proofs.writes.hold.Statement.{statement}
 use Rattle.config.proofs.writes.hold.Tie as tie
@@ -42,47 +43,47 @@ enum-told-11 : tie.Need-enum-told-11
 enum-told-11 c = search needs
 
 returns : tie.Need-returns
-unfolding hold
+unfolding hold addressOf
 returns c = rw (c .enum-told .given .1)
 
 returns-2 : tie.Need-returns-2
-unfolding hold
+unfolding hold addressOf
 returns-2 c = rw (c .enum-told2 .given .1)
 
 returns-3 : tie.Need-returns-3
-unfolding hold
+unfolding hold addressOf
 returns-3 c = rw (c .enum-told3 .given .1)
 
 returns-4 : tie.Need-returns-4
-unfolding hold
+unfolding hold addressOf
 returns-4 c = rw (c .enum-told4 .given .1)
 
 returns-5 : tie.Need-returns-5
-unfolding hold
+unfolding hold addressOf
 returns-5 c = simp (c .before .enum-told5 .given .1, c .masked .ensures)
 
 returns-6 : tie.Need-returns-6
-unfolding hold
+unfolding hold addressOf
 returns-6 c = rw (c .enum-told6 .given .1)
 
 returns-7 : tie.Need-returns-7
-unfolding hold
+unfolding hold addressOf
 returns-7 c = rw (c .enum-told7 .given .1)
 
 returns-8 : tie.Need-returns-8
-unfolding hold
+unfolding hold addressOf
 returns-8 c = rw (c .enum-told8 .given .1)
 
 returns-9 : tie.Need-returns-9
-unfolding hold
+unfolding hold addressOf
 returns-9 c = rw (c .enum-told9 .given .1)
 
 returns-10 : tie.Need-returns-10
-unfolding hold
+unfolding hold addressOf
 returns-10 c = rw (c .enum-told10 .given .1)
 
 returns-11 : tie.Need-returns-11
-unfolding hold
+unfolding hold addressOf
 returns-11 c = rw (c .enum-told11 .given .1)
 
 pub hold-spec : {M : Type 1} → statement M
