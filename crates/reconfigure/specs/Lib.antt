@@ -13,4 +13,5 @@ pub mod Demand3
 pub mod Reconfigured
 pub mod Promise
 pub mod Corollaries
+pub mod FromPowerOn
 pub mod Throughout
