@@ -21,7 +21,7 @@ use Rattle.layout.specs.declared.FrameRange.{FrameRange}
 use Rattle.compiler.specs.Compiled.{streamFor}
 use Rattle.loader.specs.Load.{load}
 use Rattle.loader.specs.Pieces.{Accepted, load-accepted, later}
-use Rattle.loader.specs.Kept.{run-device, run-buffer, load-keeps}
+use Rattle.loader.specs.Kept.{run-buffer, load-keeps}
 use Rattle.loader.specs.Safety.{load-pieces}
 use Rattle.reconfigure.specs.Demand3.{Waits, stream-does}
 
@@ -38,14 +38,13 @@ module _ (d n : ℕ) (r : FrameRange) (b : List ℕ) (bytes : AreBytes b) (taken
   waits-again =
       let does = stream-does d n r b bytes taken e m w in
       let loaded = load-accepted e m (streamFor d r b) (record { fits = w .consistent; sized = rw (w .part) (w .memory) }) in
-      let same = ap (λ o. o .device) loaded in
       let room : lengthAt (e .control .device) ≤ length (e .frame) = omega (arith, length-fits (e .control .device), w .buffer) in
       record {
-        part = rw same (run-device e m (streamFor d r b) ∙ w .part);
+        part = does .part;
         consistent = does .consistent;
         window = Bytes.Zero;
         hunting = does .hunting;
-        buffer = rw same (run-buffer e m (streamFor d r b) ∙ w .buffer);
+        buffer = ap (λ o. length (o .device .frame)) loaded ∙ run-buffer e m (streamFor d r b) ∙ w .buffer;
         memory = load-keeps (lengthAt (e .control .device)) e m (streamFor d r b) refl room .size ∙ w .memory;
       }
 

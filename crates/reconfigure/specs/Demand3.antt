@@ -31,6 +31,7 @@ use Rattle.compiler.specs.Answer.{accepted-length, compiled-accepts, compiled-w
 use Rattle.loader.specs.Run.{run, ran}
 use Rattle.loader.specs.Load.{answerOf, finished, load}
 use Rattle.loader.specs.Pieces.{Accepted, load-accepted}
+use Rattle.loader.specs.Kept.{run-device}
 use Rattle.loader.specs.Safety.{load-consistent}
 use Rattle.reconfigure.specs.Whole.{stream-goes, goes-all}
 
@@ -48,8 +49,10 @@ pub record Waits (d : ℕ) (e : Device) (m : List ℕ) : Type 0 where
 pub record Does (d n : ℕ) (r : FrameRange) (b : List ℕ) (m : List ℕ) (o : Outcome) : Type 0 where
   pub stop : o .answer ≡ Answer.Done
   pub taken : o .taken ≡ n
+  pub part : o .device .control .device ≡ d
   pub consistent : consistent (o .device .phase) (o .device .control) ≡ true
   pub hunting : o .device .phase ≡ Phase.Hunting Bytes.Zero
+  pub partial : o .device .control .partial ≡ Bytes.Zero
   pub memory : o .memory ≡ machine d b m
   pub outside : (k : ℕ) → owns r k ≡ false → frameOf (lengthAt d) k (o .memory) ≡ frameOf (lengthAt d) k m
 
@@ -68,14 +71,16 @@ module _ (d n : ℕ) (r : FrameRange) (b : List ℕ) (bytes : AreBytes b) (taken
       let ran-so : run e m (stream d (t .steps)) ≡ ran (end .next) (allDone (lengthAt d) (t .steps) m) (length (stream d (t .steps)))
       = ap (λ (x : Device). run x m (stream d (t .steps))) hunting ∙ goes-all (end .goes) in
       let same : streamFor d r b ≡ stream d (t .steps) = ap (streamOf d) (t .was-read) in
-      let loaded : load e m (streamFor d r b) ≡ finished (ran (end .next) (allDone (lengthAt d) (t .steps) m) (length (stream d (t .steps))))
-      = rw (load-accepted e m (streamFor d r b) (record { fits = w .consistent; sized = rw (w .part) (w .memory) }), same, ran-so) in
+      let as-run = load-accepted e m (streamFor d r b) (record { fits = w .consistent; sized = rw (w .part) (w .memory) }) in
+      let loaded : load e m (streamFor d r b) ≡ finished (ran (end .next) (allDone (lengthAt d) (t .steps) m) (length (stream d (t .steps)))) = rw (as-run, same, ran-so) in
       let made = machine-done d r b m (t .steps) (t .next) (t .was-read) in
       record {
         stop = rw (loaded, end .hunts);
         taken = ap (λ (o : Outcome). o .taken) loaded ∙ ap length (sym same) ∙ accepted-length d n r b taken;
+        part = ap (λ (o : Outcome). o .device .control .device) as-run ∙ run-device e m (streamFor d r b) ∙ w .part;
         consistent = load-consistent e m (streamFor d r b) (w .consistent);
         hunting = ap (λ (o : Outcome). o .device .phase) loaded ∙ end .hunts;
+        partial = ap (λ (o : Outcome). o .device .control .partial) loaded ∙ end .empty;
         memory = ap (λ (o : Outcome). o .memory) loaded ∙ sym made;
         outside = λ k out.
             ap (λ (o : Outcome). frameOf (lengthAt d) k (o .memory)) loaded ∙ outside-kept (lengthAt d) (countAt d) (owns r) (t .steps) m k fits room out;

@@ -31,10 +31,13 @@ use Rattle.loader.specs.Load.{load}
 use Rattle.reconfigure.specs.Demand3.{Waits, stream-does}
 use Rattle.reconfigure.specs.Reconfigured.{isHunting, Reconfigured, reconfiguredAfter, reconfigured}
 
--- the record waits for sync again, with no bytes remembered; the memory is the reference machine's; frames outside the range stay
+-- the record is still the part's and waits for sync again, with no bytes remembered, neither of a sync word nor of another; the memory is
+-- the reference machine's; frames outside the range stay
 pub record Done (d : ℕ) (r : FrameRange) (b m : List ℕ) (e : Device) (k : List ℕ) : Type 0 where
+  pub part : e .control .device ≡ d
   pub consistent : consistent (e .phase) (e .control) ≡ true
   pub hunting : e .phase ≡ Phase.Hunting Bytes.Zero
+  pub partial : e .control .partial ≡ Bytes.Zero
   pub memory : k ≡ machine d b m
   pub outside : (n : ℕ) → owns r n ≡ false → frameOf (lengthAt d) n k ≡ frameOf (lengthAt d) n m
 
@@ -84,7 +87,14 @@ module _ (e : Device) (m : List ℕ) (r : FrameRange) (b out : List ℕ) (bytes 
   unfolding reconfiguredAfter
   after-keeps w (Verdict.Accepted n) v =
       let does = stream-does (e .control .device) n r b bytes (compiled-accepts (e .control .device) n r b out v .0) e m w in
-      record { consistent = does .consistent; hunting = does .hunting; memory = refl; outside = λ k o. ap (frameOf (lengthAt (e .control .device)) k) (sym (does .memory)) ∙ does .outside k o }
+      record {
+        part = does .part;
+        consistent = does .consistent;
+        hunting = does .hunting;
+        partial = does .partial;
+        memory = refl;
+        outside = λ k o. ap (frameOf (lengthAt (e .control .device)) k) (sym (does .memory)) ∙ does .outside k o;
+      }
   after-keeps w Verdict.UnknownDevice v = (refl, refl)
   after-keeps w Verdict.WrongRange v = (refl, refl)
   after-keeps w Verdict.WrongMemory v = (refl, refl)

@@ -129,7 +129,7 @@ module _ (d n : ℕ) (r : FrameRange) (b : List ℕ) (bytes : AreBytes b) (taken
       let loaded = load-accepted e m (streamFor d r b) (record { fits = w .consistent; sized = rw (w .part) (w .memory) }) in
       rw loaded at (stream-does d n r b bytes taken e m w .outside k out)
 
-  -- "a stream compiled for a range never changes a byte outside it whatever it is followed by, up to its end"
+  -- wherever the stream is cut, the part of it that was loaded has changed no byte outside the range
   pub never-outside : (m begun rest : List ℕ) (k : ℕ) → Waits d e m → streamFor d r b ≡ begun ++ rest → owns r k ≡ false
       → frameOf (lengthAt d) k (load e m begun .memory) ≡ frameOf (lengthAt d) k m
   never-outside m begun rest k w cut out =
