@@ -9,9 +9,10 @@ use mathlib.Core.Bool.{Bool}
 use lib.Dec.{lit<}
 use lib.ListN.{length, take, drop, length-append, length-drop, take-append-drop, drop-of-length-le}
 use lib.Seq.{take-at, drop-at, drop-drop, drop-append-seam}
+use Rattle.parts.specs.Bytes.{AreBytes}
 use Rattle.numbers.specs.Number.{numberAt}
 use Rattle.numbers.specs.declared.Number.the-variants as Number
-use Rattle.numbers.specs.Code.{code, Octets, read-code, number-spans, code-read}
+use Rattle.numbers.specs.Code.{code, read-code, number-spans, code-read}
 use Rattle.layout.specs.Step.{Step, FrameWrite, MultiFrameWrite, Read, frames}
 use Rattle.layout.specs.Reader.{targetsAt, stepsAt}
 use Rattle.layout.specs.Layout.{layoutRead}
@@ -55,14 +56,14 @@ joined-length l (x ∷ xs) sized = omega (arith, length-append x (flatten xs), s
 
 -- ---- the bytes of an accepted layout
 
-module _ (l f : ℕ) (own : ℕ → Bool) (b : List ℕ) (octets : Octets b) where
+module _ (l f : ℕ) (own : ℕ → Bool) (b : List ℕ) (bytes : AreBytes b) where
   targets-coded : (k low at : ℕ) (ts : List ℕ) (next : ℕ) → targetsAt f own b k low at ≡ Read ts next → drop at b ≡ flatMap code ts ++ drop next b
   unfolding targetsAt flatMap
   targets-coded zero low at ts next e = cc
   targets-coded (suc k) low at ts next e =
       let v = target-view l f own b k low at ts next e in
       let others = targets-coded k (v .target + 1) (v .after) (v .rest) next (v .rest-read) in
-      rw (v .split, append-assoc (code (v .target)) (flatMap code (v .rest)) (drop next b), ← others) (code-read b at (v .target) (v .after) octets (v .target-read))
+      rw (v .split, append-assoc (code (v .target)) (flatMap code (v .rest)) (drop next b), ← others) (code-read b at (v .target) (v .after) bytes (v .target-read))
 
   write-coded : (at n k body next : ℕ) → WriteView l f own b at n k body next → drop at b ≡ codeStep (FrameWrite n (frames l k (drop body b))) ++ drop next b
   unfolding codeStep
@@ -73,9 +74,9 @@ module _ (l f : ℕ) (own : ℕ → Bool) (b : List ℕ) (octets : Octets b) whe
         v .size,
         ← drop-drop (4 * l * k) body b,
         ← frames-split l k (drop body b),
-        ← code-read b (v .count) k body octets (v .count-read),
-        ← code-read b (v .first) n (v .count) octets (v .first-read),
-        ← code-read b at 1 (v .first) octets (v .kind-read),
+        ← code-read b (v .count) k body bytes (v .count-read),
+        ← code-read b (v .first) n (v .count) bytes (v .first-read),
+        ← code-read b at 1 (v .first) bytes (v .kind-read),
       )
 
   multi-coded : (at k body targets next : ℕ) (v : MultiView l f own b at k body targets next)
@@ -89,8 +90,8 @@ module _ (l f : ℕ) (own : ℕ → Bool) (b : List ℕ) (octets : Octets b) whe
         v .place,
         ← drop-drop (4 * l) body b,
         take-append-drop (4 * l) (drop body b),
-        ← code-read b (v .count) k body octets (v .count-read),
-        ← code-read b at 2 (v .count) octets (v .kind-read),
+        ← code-read b (v .count) k body bytes (v .count-read),
+        ← code-read b at 2 (v .count) bytes (v .kind-read),
       )
 
   steps-coded : (n at : ℕ) (ss : List Step) (next : ℕ) → stepsAt l f own b n at ≡ Read ss next → drop at b ≡ flatMap codeStep ss ++ drop next b
@@ -114,9 +115,9 @@ module _ (l f : ℕ) (own : ℕ → Bool) (b : List ℕ) (octets : Octets b) whe
       simp (
         all,
         steps-fit l f own b (v .number) (v .first) ss next (v .all-read) .0,
-        ← code-read b (v .count) (v .number) (v .first) octets (v .count-read),
-        ← code-read b (v .device) d (v .count) octets (v .device-read),
-        ← code-read b 0 1 (v .device) octets (v .edition-read),
+        ← code-read b (v .count) (v .number) (v .first) bytes (v .count-read),
+        ← code-read b (v .device) d (v .count) bytes (v .device-read),
+        ← code-read b 0 1 (v .device) bytes (v .edition-read),
       )
 
 -- ---- reading the code

@@ -10,6 +10,7 @@ use lib.Dec.{eqb, ltb}
 use lib.ListN.{length, drop, length-drop}
 use lib.Seq.{drop-drop}
 use borrow.Author.Tests.{lt-ltb, le-ltb, eq-eqb, ne-eqb, ltb-true, ltb-false, not-false}
+use Rattle.parts.specs.Bytes.{AreBytes, bytes-drop}
 use Rattle.answers.specs.declared.layout.Cause.{Cause}
 use Rattle.numbers.specs.Number.{lastGroup, lowGroup, groups, numberAt}
 use Rattle.numbers.specs.declared.Number.{Number}
@@ -22,11 +23,6 @@ codeFrom (suc k) n = cond (ltb n 128) (n ∷ []) ((128 + n % 128) ∷ codeFrom k
 
 abbrev pub code : ℕ → List ℕ
 code n = codeFrom 4 n
-
--- every byte is one
-abbrev pub Octets : List ℕ → Type 0
-Octets [] = Unit {0}
-Octets (x ∷ xs) = (x < 256) × Octets xs
 
 -- ---- what was read
 
@@ -128,19 +124,14 @@ number-spans b at n next e =
     spans : (at < next) × (next ≤ at + length (drop at b)) → Spans b at next
     spans s = record { after = s .0; within = omega (arith, length-drop at b) }
 
-octets-drop : (i : ℕ) (b : List ℕ) → Octets b → Octets (drop i b)
-octets-drop zero b o = o
-octets-drop (suc i) [] o = o
-octets-drop (suc i) (x ∷ xs) o = octets-drop i xs (o .1)
-
 -- and is under 2 ^ 32
-pub number-small : (b : List ℕ) (at n next : ℕ) → Octets b → numberAt b at ≡ Number.Value n next → n < 4294967296
+pub number-small : (b : List ℕ) (at n next : ℕ) → AreBytes b → numberAt b at ≡ Number.Value n next → n < 4294967296
 number-small b at n next o e =
-    groups-induction (λ k first i xs n next. Octets xs → n < 16 * 128 ^ k)
+    groups-induction (λ k first i xs n next. AreBytes xs → n < 16 * 128 ^ k)
     (λ first i x xs h o. omega arith)
     (λ k first i x xs h o. omega (arith, one-le-pow k 128 (omega arith)))
     (λ k first i x xs v next h z later o. omega (arith, later (o .1)))
-    4 true at (drop at b) n next e .1 (octets-drop at b o)
+    4 true at (drop at b) n next e .1 (bytes-drop at b o)
 
 -- a number under 128 has one byte
 pub number-short : (b : List ℕ) (at n next : ℕ) → numberAt b at ≡ Number.Value n next → n < 128 → next ≡ at + 1
@@ -160,14 +151,14 @@ code-more k x v h o z =
     rw (le-ltb (x - 128 + 128 * v) 128 (omega arith), low, high)
 
 -- each accepted form is the only one: the bytes read are the shortest form of the number
-pub code-read : (b : List ℕ) (at n next : ℕ) → Octets b → numberAt b at ≡ Number.Value n next → drop at b ≡ code n ++ drop next b
+pub code-read : (b : List ℕ) (at n next : ℕ) → AreBytes b → numberAt b at ≡ Number.Value n next → drop at b ≡ code n ++ drop next b
 unfolding codeFrom
 code-read b at n next o e =
-    groups-induction (λ k first i xs n next. Octets xs → xs ≡ drop i b → xs ≡ codeFrom k n ++ drop next b)
+    groups-induction (λ k first i xs n next. AreBytes xs → xs ≡ drop i b → xs ≡ codeFrom k n ++ drop next b)
     (λ first i x xs h o d. ap (λ t. x ∷ t) (rest i x xs d))
     (λ k first i x xs h o d. rw (lt-ltb x 128 h) (ap (λ t. x ∷ t) (rest i x xs d)))
     (λ k first i x xs v next h z later o d. rw (code-more k x v h (o .0) z) (ap (λ t. x ∷ t) (later (o .1) (rest i x xs d))))
-    4 true at (drop at b) n next e .1 (octets-drop at b o) refl
+    4 true at (drop at b) n next e .1 (bytes-drop at b o) refl
   where
     rest : (i x : ℕ) (xs : List ℕ) → x ∷ xs ≡ drop i b → xs ≡ drop (i + 1) b
     rest i x xs d = ap (drop 1) d ∙ drop-drop 1 i b
