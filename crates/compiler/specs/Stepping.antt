@@ -11,11 +11,11 @@ use Rattle.parts.specs.Device.{lengthAt, countAt}
 use Rattle.parts.specs.Figures.{length-fits, count-fits}
 use Rattle.answers.specs.declared.layout.Cause.{Cause}
 use Rattle.layout.specs.Step.{Step, listed}
-use Rattle.layout.specs.Reader.{stepAt, stepsAt}
+use Rattle.layout.specs.Reader.{stepAt, stepsAt, stepOffset}
 use Rattle.layout.specs.Views.{write-view, multi-view}
 use Rattle.layout.specs.Targets.{numbersAt}
 use Rattle.layout.specs.Accepting.{isRead}
-use Rattle.layout.specs.First.{nextOf, stepOf, steps-none, steps-first}
+use Rattle.layout.specs.First.{stepOf, steps-none, steps-first}
 use Rattle.layout.specs.declared.step.StepAt.{StepAt}
 use Rattle.layout.specs.declared.step.StepAt.the-variants as StepAt
 use Rattle.stream.specs.Packets.{Packet}
@@ -86,8 +86,8 @@ module _ (d l f : ℕ) (own : ℕ → Bool) (b : List ℕ) where
   none-put n at e = rw (steps-none l f own b n at e)
 
   pub step-put : (n at : ℕ) (s : StepAt) → stepAt l f own b at ≡ s → 0 < n → isRead (stepsAt l f own b n at) ≡ true
-      → (isRead (stepsAt l f own b (n - 1) (nextOf s)) ≡ true)
-      × (stepsPackets d (listed (stepsAt l f own b n at)) ≡ stepsPackets d (stepOf l b s) ++ stepsPackets d (listed (stepsAt l f own b (n - 1) (nextOf s))))
+      → (isRead (stepsAt l f own b (n - 1) (stepOffset s)) ≡ true)
+      × (stepsPackets d (listed (stepsAt l f own b n at)) ≡ stepsPackets d (stepOf l b s) ++ stepsPackets d (listed (stepsAt l f own b (n - 1) (stepOffset s))))
   step-put n at s e h t =
       let split = steps-first l f own b n at s e h t in
       (split .0, ap (stepsPackets d) (split .1) ∙ packets-append d (stepOf l b s) _)

@@ -10,6 +10,7 @@ use crc16::CrcTable;
 use layout::FrameRange;
 use layout::step::StepAt;
 use layout::step::read_step;
+use layout::step::step_offset;
 use numbers::Number;
 use numbers::read_number;
 use parts::device::frame_length;
@@ -33,7 +34,7 @@ ghost use Rattle.layout.specs.Reader.{stepsAt};
 ghost use Rattle.layout.specs.Layout.{layoutRead};
 ghost use Rattle.layout.specs.Targets.{numbersAt};
 ghost use Rattle.layout.specs.Accepting.{isRead};
-ghost use Rattle.layout.specs.First.{nextOf, stepOf, StepBytes};
+ghost use Rattle.layout.specs.First.{stepOf, StepBytes};
 ghost use Rattle.stream.specs.Stream.{toFrame, further, spreadPackets, stepsPackets, heading};
 ghost use Rattle.compiler.specs.Compiled.{streamFor, overwritten};
 ghost use Rattle.compiler.specs.Whole.{synced};
@@ -163,27 +164,6 @@ fn put_step(
     }
 }
 
-// The offset after a step.
-fn next_of(step: StepAt) -> usize
-    ensures { λ r. ⌜ r ≡ nextOf step ⌝ }
-{
-    match step {
-        StepAt::Refused { cause: _, at: _ } => 0,
-        StepAt::FrameWrite {
-            first: _,
-            count: _,
-            body: _,
-            next,
-        } => next,
-        StepAt::MultiFrameWrite {
-            count: _,
-            body: _,
-            targets: _,
-            next,
-        } => next,
-    }
-}
-
 // Writes the steps of a list that was read, from an offset on.
 fn put_steps(
     table: &CrcTable,
@@ -204,7 +184,7 @@ fn put_steps(
     while 0 < left {
         let step = read_step(device, range, layout, at);
         last = put_step(table, output, last, device, layout, step);
-        at = next_of(step);
+        at = step_offset(step);
         left -= 1;
     }
     last

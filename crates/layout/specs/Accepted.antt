@@ -10,7 +10,7 @@ use lib.Seq.{length-take-le}
 use Rattle.layout.specs.Range.{ownsRun}
 use Rattle.layout.specs.Step.{Step, FrameWrite, MultiFrameWrite, Read, listed, frames}
 use Rattle.layout.specs.Reader.{targetsAt, stepsAt}
-use Rattle.layout.specs.Layout.{layoutRead}
+use Rattle.layout.specs.Layout.{mostSteps, layoutRead}
 use Rattle.layout.specs.Views.{WriteView, MultiView, target-view}
 use Rattle.layout.specs.Whole.{FirstStep, first-step, layout-view}
 
@@ -107,5 +107,5 @@ module _ (l f : ℕ) (own : ℕ → Bool) (b : List ℕ) where
   accepted-fits d ss next e = let v = layout-view l f own b d ss next e in steps-fit (v .number) (v .first) ss next (v .all-read) .1
 
   -- "step count (at most 4096)"
-  pub accepted-few : (d : ℕ) (ss : List Step) (next : ℕ) → layoutRead l f own b d ≡ Read ss next → length ss ≤ 4096
+  pub accepted-few : (d : ℕ) (ss : List Step) (next : ℕ) → layoutRead l f own b d ≡ Read ss next → length ss ≤ mostSteps
   accepted-few d ss next e = let v = layout-view l f own b d ss next e in rw (steps-fit (v .number) (v .first) ss next (v .all-read) .0) (v .few)

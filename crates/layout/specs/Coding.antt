@@ -1,7 +1,7 @@
 -- A layout's steps have one coding: the bytes of an accepted layout are the code of its steps, and reading that code gives the steps.
 -- By induction over steps and targets, over the bytes from an offset on: each number, frame and target is followed by the rest.
 use mathlib.Core.Path.{_≡_, _∙_, refl, sym, ap, subst}
-use Prim.Native.Nat.{ℕ, zero, suc, _+_, _*_, _≤_, _<_}
+use Prim.Native.Nat.{ℕ, zero, suc, _+_, _*_, _^_, _≤_, _<_}
 use native.Mathlib.Nat.{add-zero, mul-zero, mul-suc, add-comm, le-refl}
 use native.Mathlib.Omega.{arith}
 use mathlib.Core.List.{List, [], _∷_, _++_, append-nil, append-assoc, flatten, flatMap}
@@ -15,7 +15,7 @@ use Rattle.numbers.specs.declared.Number.the-variants as Number
 use Rattle.numbers.specs.Code.{code, read-code, number-spans, code-read}
 use Rattle.layout.specs.Step.{Step, FrameWrite, MultiFrameWrite, Read, frames}
 use Rattle.layout.specs.Reader.{targetsAt, stepsAt}
-use Rattle.layout.specs.Layout.{layoutRead}
+use Rattle.layout.specs.Layout.{mostSteps, layoutRead}
 use Rattle.layout.specs.Views.{WriteView, MultiView, target-view}
 use Rattle.layout.specs.Converse.{target-reads}
 use Rattle.layout.specs.Whole.{FirstStep, first-step, steps-read, layout-view, layout-reads}
@@ -137,10 +137,10 @@ module _ (b : List ℕ) where
   reaches : (at : ℕ) (x rest : List ℕ) → at ≤ length b → drop at b ≡ x ++ rest → at + length x ≤ length b
   reaches at x rest h e = omega (arith, length-drop at b, ap length e, length-append x rest)
 
-  code-reads : (n at : ℕ) (rest : List ℕ) → n < 4294967296 → drop at b ≡ code n ++ rest → numberAt b at ≡ Number.Value n (at + length (code n))
+  code-reads : (n at : ℕ) (rest : List ℕ) → n < 2 ^ 32 → drop at b ≡ code n ++ rest → numberAt b at ≡ Number.Value n (at + length (code n))
   code-reads n at rest h e = rw e (read-code n at rest h)
 
-module _ (l f : ℕ) (own : ℕ → Bool) (b : List ℕ) (small : f < 4294967296) where
+module _ (l f : ℕ) (own : ℕ → Bool) (b : List ℕ) (small : f < 2 ^ 32) where
   targets-read : (ts : List ℕ) (low at : ℕ) (rest : List ℕ) → Targets l f own low ts → drop at b ≡ flatMap code ts ++ rest
       → targetsAt f own b (length ts) low at ≡ Read ts (at + length (flatMap code ts))
   unfolding targetsAt flatMap
@@ -225,7 +225,7 @@ module _ (l f : ℕ) (own : ℕ → Bool) (b : List ℕ) (small : f < 4294967296
       (first-read s ss at _ (flatMap codeStep ss ++ rest) (fit .0) here
       (rw (← after-both at (codeStep s) (flatMap codeStep ss)) (all-read ss (at + length (codeStep s)) rest (fit .1) (past b at (codeStep s) _ here))))
 
-  layout-read : (d : ℕ) (ss : List Step) → d < 4294967296 → AllFit l f own ss → length ss ≤ 4096 → b ≡ codeLayout d ss → layoutRead l f own b d ≡ Read ss (length b)
+  layout-read : (d : ℕ) (ss : List Step) → d < 2 ^ 32 → AllFit l f own ss → length ss ≤ mostSteps → b ≡ codeLayout d ss → layoutRead l f own b d ≡ Read ss (length b)
   unfolding codeLayout
   layout-read d ss h fit few e =
       let device = 0 + length (code 1) in
@@ -249,6 +249,6 @@ module _ (l f : ℕ) (own : ℕ → Bool) (b : List ℕ) (small : f < 4294967296
       }
 
 -- every list of steps that fit has a layout
-pub coded-read : (l f : ℕ) (own : ℕ → Bool) (d : ℕ) (ss : List Step) → f < 4294967296 → d < 4294967296 → AllFit l f own ss → length ss ≤ 4096
+pub coded-read : (l f : ℕ) (own : ℕ → Bool) (d : ℕ) (ss : List Step) → f < 2 ^ 32 → d < 2 ^ 32 → AllFit l f own ss → length ss ≤ mostSteps
     → layoutRead l f own (codeLayout d ss) d ≡ Read ss (length (codeLayout d ss))
 coded-read l f own d ss small h fit few = layout-read l f own (codeLayout d ss) small d ss h fit few refl

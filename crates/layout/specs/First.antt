@@ -7,19 +7,13 @@ use mathlib.Core.Bool.{Bool, true, false}
 use native.Mathlib.Omega.{arith}
 use lib.ListN.{length, take, drop}
 use Rattle.layout.specs.Step.{Step, FrameWrite, MultiFrameWrite, Reading, before, listed, frames}
-use Rattle.layout.specs.Reader.{stepAt, andStep, stepsAt}
+use Rattle.layout.specs.Reader.{stepAt, andStep, stepsAt, stepOffset}
 use Rattle.layout.specs.Views.{write-view, multi-view}
 use Rattle.layout.specs.Loops.{steps-more}
 use Rattle.layout.specs.Targets.{numbersAt, targets-numbers}
 use Rattle.layout.specs.Accepting.{isRead}
 use Rattle.layout.specs.declared.step.StepAt.{StepAt}
 use Rattle.layout.specs.declared.step.StepAt.the-variants as StepAt
-
--- the offset after a step; after a refusal none is looked at
-unfoldable pub nextOf : StepAt → ℕ
-nextOf (StepAt.FrameWrite n k body next) = next
-nextOf (StepAt.MultiFrameWrite k body targets next) = next
-nextOf (StepAt.Refused c at) = 0
 
 -- the one step that lies there, or none
 unfoldable pub stepOf : ℕ → List ℕ → StepAt → List Step
@@ -45,9 +39,9 @@ module _ (l f : ℕ) (own : ℕ → Bool) (b : List ℕ) where
 
   -- a list that was read goes on after its first step, whichever it is
   pub steps-first : (n at : ℕ) (s : StepAt) → stepAt l f own b at ≡ s → 0 < n → isRead (stepsAt l f own b n at) ≡ true
-      → (isRead (stepsAt l f own b (n - 1) (nextOf s)) ≡ true)
-      × (listed (stepsAt l f own b n at) ≡ stepOf l b s ++ listed (stepsAt l f own b (n - 1) (nextOf s)))
-  unfolding andStep listed isRead nextOf stepOf
+      → (isRead (stepsAt l f own b (n - 1) (stepOffset s)) ≡ true)
+      × (listed (stepsAt l f own b n at) ≡ stepOf l b s ++ listed (stepsAt l f own b (n - 1) (stepOffset s)))
+  unfolding andStep listed isRead stepOffset stepOf
   steps-first n at (StepAt.FrameWrite first k body next) e h t =
       let more = steps-more l f own b n at h in
       rw (more, e) (first-listed (FrameWrite first (frames l k (drop body b))) _ (rw (more, e) at t))

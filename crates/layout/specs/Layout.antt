@@ -25,10 +25,13 @@ unfoldable pub ended : List ℕ → Reading (List Step) → Reading (List Step)
 ended b (Reading.Read ss next) = cond (ltb next (length b)) (Refused Cause.Trailing next) (Read ss next)
 ended b (Reading.Refused c at) = Refused c at
 
+-- "step count (at most 4096)"
+abbrev pub mostSteps : ℕ
+mostSteps = 4096
+
 module _ (l f : ℕ) (own : ℕ → Bool) (b : List ℕ) where
-  -- "step count (at most 4096)"
   unfoldable pub countRead : ℕ → Number → Reading (List Step)
-  countRead at (Number.Value n next) = cond (ltb 4096 n) (Refused Cause.TooManySteps at) (ended b (stepsAt l f own b n next))
+  countRead at (Number.Value n next) = cond (ltb mostSteps n) (Refused Cause.TooManySteps at) (ended b (stepsAt l f own b n next))
   countRead at (Number.Refused c) = Refused c at
 
   -- the layout's device is d

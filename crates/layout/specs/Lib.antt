@@ -18,3 +18,4 @@ pub mod Accepting
 pub mod ByteFrames
 pub mod First
 pub mod Offset
+pub mod NoPart

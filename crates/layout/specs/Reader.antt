@@ -6,12 +6,15 @@ use mathlib.Core.List.{List, []}
 use mathlib.Core.Bool.{Bool, cond}
 use lib.Dec.{eqb, ltb}
 use lib.ListN.{length, take, drop}
+use Rattle.parts.specs.Device.{lengthAt, countAt}
+use Rattle.answers.specs.Refusals.{causeNumber}
 use Rattle.answers.specs.declared.layout.Cause.the-variants as Cause
 use Rattle.numbers.specs.Number.{numberAt}
 use Rattle.numbers.specs.declared.Number.{Number}
 use Rattle.numbers.specs.declared.Number.the-variants as Number
-use Rattle.layout.specs.Range.{ownsRun}
+use Rattle.layout.specs.Range.{owns, ownsRun}
 use Rattle.layout.specs.Step.{Step, FrameWrite, MultiFrameWrite, Reading, Read, Refused, before, listed, frames}
+use Rattle.layout.specs.declared.FrameRange.{FrameRange}
 use Rattle.layout.specs.declared.step.StepAt.{StepAt}
 use Rattle.layout.specs.declared.step.StepAt.the-variants as StepAt
 
@@ -88,3 +91,22 @@ module _ (l f : ℕ) (own : ℕ → Bool) (b : List ℕ) where
   unfoldable pub stepsAt : ℕ → ℕ → Reading (List Step)
   stepsAt zero at = Read [] at
   stepsAt (suc n) at = andStep (stepAt at) (λ next. stepsAt n next)
+
+-- ---- one step, as a desk reads it
+
+-- the step at an offset, for the desk's device d and range r. A device that names no part has frames of 0 words and none of them: 01 leaves
+-- the step free there, and it is refused (NoPart)
+abbrev pub deskStep : ℕ → FrameRange → List ℕ → ℕ → StepAt
+deskStep d r b at = stepAt (lengthAt d) (countAt d) (owns r) b at
+
+-- 01's number of a step, 0 where it was read
+abbrev pub stepRefusal : StepAt → ℕ
+stepRefusal (StepAt.FrameWrite n k body next) = 0
+stepRefusal (StepAt.MultiFrameWrite k body targets next) = 0
+stepRefusal (StepAt.Refused c at) = causeNumber c
+
+-- the offset told: the one after the step, or the one of what is refused
+unfoldable pub stepOffset : StepAt → ℕ
+stepOffset (StepAt.FrameWrite n k body next) = next
+stepOffset (StepAt.MultiFrameWrite k body targets next) = next
+stepOffset (StepAt.Refused c at) = at

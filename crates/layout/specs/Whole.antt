@@ -13,7 +13,7 @@ use Rattle.numbers.specs.declared.Number.the-variants as Number
 use Rattle.parts.specs.Cases.{either}
 use Rattle.layout.specs.Step.{Step, FrameWrite, MultiFrameWrite, Reading, Read, before, listed, frames}
 use Rattle.layout.specs.Reader.{stepAt, andStep, stepsAt}
-use Rattle.layout.specs.Layout.{ended, countRead, deviceRead, editionRead, layoutRead}
+use Rattle.layout.specs.Layout.{mostSteps, ended, countRead, deviceRead, editionRead, layoutRead}
 use Rattle.layout.specs.Views.{WriteView, MultiView, write-view, multi-view}
 use Rattle.layout.specs.Converse.{write-reads, multi-reads}
 use Rattle.layout.specs.declared.step.StepAt.{StepAt}
@@ -72,7 +72,7 @@ module _ (l f : ℕ) (own : ℕ → Bool) (b : List ℕ) where
     pub edition-read : numberAt b 0 ≡ Number.Value 1 device
     pub device-read : numberAt b device ≡ Number.Value d count
     pub count-read : numberAt b count ≡ Number.Value number first
-    pub few : number ≤ 4096
+    pub few : number ≤ mostSteps
     pub all-read : stepsAt l f own b number first ≡ Read ss next
     pub end : length b ≤ next
 
@@ -81,7 +81,7 @@ module _ (l f : ℕ) (own : ℕ → Bool) (b : List ℕ) where
   View d (Reading.Refused c offset) = Unit {0}
 
   ended-view : (d device count number first : ℕ) → numberAt b 0 ≡ Number.Value 1 device → numberAt b device ≡ Number.Value d count → numberAt b count ≡ Number.Value number first
-      → number ≤ 4096 → (r : Reading (List Step)) → stepsAt l f own b number first ≡ r → View d (ended b r)
+      → number ≤ mostSteps → (r : Reading (List Step)) → stepsAt l f own b number first ≡ r → View d (ended b r)
   unfolding ended
   ended-view d device count number first e g h few (Reading.Read ss next) s =
       either (View d) (ltb next (length b)) (λ _. tt) λ all. record {
@@ -102,7 +102,7 @@ module _ (l f : ℕ) (own : ℕ → Bool) (b : List ℕ) where
       → View d (countRead l f own b count x)
   unfolding countRead
   count-view d device count e g (Number.Value n next) h =
-      either (View d) (ltb 4096 n) (λ _. tt) (λ few. ended-view d device count n next e g h (ltb-false 4096 n few) _ refl)
+      either (View d) (ltb mostSteps n) (λ _. tt) (λ few. ended-view d device count n next e g h (ltb-false mostSteps n few) _ refl)
   count-view d device count e g (Number.Refused c) h = tt
 
   device-view : (d device : ℕ) → numberAt b 0 ≡ Number.Value 1 device → (x : Number) → numberAt b device ≡ x → View d (deviceRead l f own b d device x)
@@ -123,4 +123,4 @@ module _ (l f : ℕ) (own : ℕ → Bool) (b : List ℕ) where
   pub layout-reads : (d : ℕ) (ss : List Step) (next : ℕ) → LayoutView d ss next → layoutRead l f own b d ≡ Read ss next
   unfolding editionRead deviceRead countRead ended
   layout-reads d ss next v =
-      rw (v .edition-read, v .device-read, eq-eqb d d refl, v .count-read, le-ltb 4096 _ (v .few), v .all-read, le-ltb _ _ (v .end))
+      rw (v .edition-read, v .device-read, eq-eqb d d refl, v .count-read, le-ltb mostSteps _ (v .few), v .all-read, le-ltb _ _ (v .end))

@@ -17,7 +17,10 @@ ghost use Rattle.answers.specs.declared.layout.Verdict.the-variants as Verdict;
 ghost use Rattle.numbers.specs.Number.{numberAt};
 ghost use Rattle.layout.specs.Range.{owns};
 ghost use Rattle.layout.specs.Reader.{stepsAt};
-ghost use Rattle.layout.specs.Layout.{ended, countRead, deviceRead, layoutAt, verdictOf, checkAt};
+ghost use Rattle.layout.specs.Layout.{mostSteps, ended, countRead, deviceRead, layoutAt, verdictOf, checkAt};
+
+// The most steps that a layout may have.
+const MOST_STEPS: u32 = 4096;
 
 fn refused(cause: Cause, at: usize) -> Verdict
     ensures { λ r. ⌜ r ≡ Verdict.Refused cause at ⌝ }
@@ -30,7 +33,7 @@ fn refused(cause: Cause, at: usize) -> Verdict
 
 // The list of steps, and the end.
 fn layout_steps(device: u32, range: FrameRange, layout: &[u8], count: u32, start: usize) -> Verdict
-    requires { ⌜ count ≤ 4096 ⌝ }
+    requires { ⌜ count ≤ mostSteps ⌝ }
     ensures { λ r. ⌜ r ≡ verdictOf (lengthAt device) (ended (now (layout .entry)) (stepsAt (lengthAt device) (countAt device) (owns range) (now (layout .entry)) count start)) ⌝ }
 {
     let length = value_of(frame_length(device)) as u64;
@@ -68,7 +71,7 @@ fn layout_count(device: u32, range: FrameRange, layout: &[u8], at: usize) -> Ver
     match read {
         Number::Refused(cause) => refused(cause, at),
         Number::Value { value, next } => {
-            if 4096 < value {
+            if MOST_STEPS < value {
                 return refused(Cause::TooManySteps, at);
             }
             layout_steps(device, range, layout, value, next)

@@ -3,6 +3,7 @@ use crate::FrameRange;
 use crate::range::owns_run;
 use crate::targets::multi_targets;
 use answers::layout::Cause;
+use answers::layout::cause_number;
 use numbers::Number;
 use numbers::read_number;
 use parts::device::frame_count;
@@ -15,7 +16,7 @@ ghost use Rattle.parts.specs.Device.{lengthAt, countAt};
 ghost use Rattle.numbers.specs.Number.{numberAt};
 ghost use Rattle.layout.specs.Range.{owns};
 ghost use Rattle.layout.specs.declared.step.StepAt.the-variants as StepAt;
-ghost use Rattle.layout.specs.Reader.{judgedWrite, writeCount, writeFirst, judgedMulti, multiCount, stepAt};
+ghost use Rattle.layout.specs.Reader.{judgedWrite, writeCount, writeFirst, judgedMulti, multiCount, deskStep, stepRefusal, stepOffset};
 
 // A step that was read: where its frames and its targets lie, and the offset after it.
 pub enum StepAt {
@@ -164,9 +165,9 @@ fn multi_count(device: u32, range: FrameRange, layout: &[u8], at: usize) -> Step
     }
 }
 
-// The step at an offset.
+// The step at an offset. A device that names no part is not refused 21: the step has no frames to name, and is refused 31 or 34.
 pub fn read_step(device: u32, range: FrameRange, layout: &[u8], at: usize) -> StepAt
-    ensures { λ r. ⌜ r ≡ stepAt (lengthAt device) (countAt device) (owns range) (now (layout .entry)) at ⌝ }
+    ensures { λ r. ⌜ r ≡ deskStep device range (now (layout .entry)) at ⌝ }
 {
     let kind = read_number(layout, at);
     match kind {
@@ -180,5 +181,27 @@ pub fn read_step(device: u32, range: FrameRange, layout: &[u8], at: usize) -> St
             }
             refused(Cause::UnknownKind, at)
         }
+    }
+}
+
+// 01's number of a step, 0 where it was read.
+pub fn step_refusal(step: StepAt) -> u32
+    ensures { λ r. ⌜ r ≡ stepRefusal step ⌝ }
+{
+    match step {
+        StepAt::FrameWrite { .. } => 0,
+        StepAt::MultiFrameWrite { .. } => 0,
+        StepAt::Refused { cause, at: _ } => cause_number(cause),
+    }
+}
+
+// The offset that a step tells: the one after it, or the one of what is refused.
+pub fn step_offset(step: StepAt) -> usize
+    ensures { λ r. ⌜ r ≡ stepOffset step ⌝ }
+{
+    match step {
+        StepAt::FrameWrite { next, .. } => next,
+        StepAt::MultiFrameWrite { next, .. } => next,
+        StepAt::Refused { cause: _, at } => at,
     }
 }

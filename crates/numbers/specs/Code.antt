@@ -105,7 +105,7 @@ read-from (suc k) first n at rest h z = go (ltb n 128) refl (λ l. read-from k f
         rw (t, le-ltb (128 + n % 128) 128 (omega arith), later (ltb-false n 128 t)) (ap₂ Number.Value (omega arith) (omega arith))
 
 -- reading what the shortest form writes gives the number
-pub read-code : (n at : ℕ) (rest : List ℕ) → n < 4294967296 → groups 4 true at (code n ++ rest) ≡ Number.Value n (at + length (code n))
+pub read-code : (n at : ℕ) (rest : List ℕ) → n < 2 ^ 32 → groups 4 true at (code n ++ rest) ≡ Number.Value n (at + length (code n))
 read-code n at rest h = read-from 4 true n at rest h (λ z. refl)
 
 -- what is read lies in the bytes and ends after its start
@@ -125,7 +125,7 @@ number-spans b at n next e =
     spans s = record { after = s .0; within = omega (arith, length-drop at b) }
 
 -- and is under 2 ^ 32
-pub number-small : (b : List ℕ) (at n next : ℕ) → AreBytes b → numberAt b at ≡ Number.Value n next → n < 4294967296
+pub number-small : (b : List ℕ) (at n next : ℕ) → AreBytes b → numberAt b at ≡ Number.Value n next → n < 2 ^ 32
 number-small b at n next o e =
     groups-induction (λ k first i xs n next. AreBytes xs → n < 16 * 128 ^ k)
     (λ first i x xs h o. omega arith)

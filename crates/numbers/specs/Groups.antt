@@ -24,7 +24,7 @@ scaled low weight (Number.Refused c) = Number.Refused c
 -- what was read up to offset i; left groups may follow the next one
 pub record Reading (b : List ℕ) (at i low weight : ℕ) : Type 0 where
   pub left : ℕ
-  pub weighs : weight * 128 ^ left ≡ 268435456
+  pub weighs : weight * 128 ^ left ≡ 128 ^ 4
   pub under : low < weight
   pub onward : at ≤ i
   pub is : scaled low weight (groups left (eqb i at) i (drop i b)) ≡ numberAt b at
@@ -50,10 +50,10 @@ reading-start b at =
     }
 
 -- one group fewer may follow a group of this weight
-fewer : (weight k : ℕ) → weight * 128 ^ suc k ≡ 268435456 → weight * 128 * 128 ^ k ≡ 268435456
+fewer : (weight k : ℕ) → weight * 128 ^ suc k ≡ 128 ^ 4 → weight * 128 * 128 ^ k ≡ 128 ^ 4
 fewer weight k e = mul-assoc weight 128 (128 ^ k) ∙ ap (λ n. weight * n) (sym (pow-succ' 128 k)) ∙ e
 
-weight-le : (weight k : ℕ) → weight * 128 ^ k ≡ 268435456 → weight ≤ 268435456
+weight-le : (weight k : ℕ) → weight * 128 ^ k ≡ 128 ^ 4 → weight ≤ 128 ^ 4
 weight-le weight k e = omega (arith, mul-le-mul-left weight (one-le-pow k 128 (omega arith)))
 
 -- the next byte
@@ -67,21 +67,21 @@ module _ {b : List ℕ} {at i low weight : ℕ} (r : Reading b at i low weight) 
   next : Next (r .left)
   next = rw (add-one i, ← drop-cons b i 0 h) (r .is)
 
-  pub reading-high : weight ≡ 268435456 → 15 < x → Number.Refused Cause.BadForm ≡ numberAt b at
+  pub reading-high : weight ≡ 128 ^ 4 → 15 < x → Number.Refused Cause.BadForm ≡ numberAt b at
   unfolding groups scaled
   reading-high w high = go (r .left) (r .weighs) next
     where
-      go : (k : ℕ) → weight * 128 ^ k ≡ 268435456 → Next k → Number.Refused Cause.BadForm ≡ numberAt b at
+      go : (k : ℕ) → weight * 128 ^ k ≡ 128 ^ 4 → Next k → Number.Refused Cause.BadForm ≡ numberAt b at
       go zero e is = rw (lt-ltb 15 x high) at is
       go (suc k) e is = absurd (omega (arith, weight-le (weight * 128) k (fewer weight k e)))
 
-  pub reading-last : x < 128 → (weight ≡ 268435456 → x ≤ 15)
-      → (low + weight * x < 4294967296) × (scaled low weight (lastGroup (eqb i at) x (i + 1)) ≡ numberAt b at)
+  pub reading-last : x < 128 → (weight ≡ 128 ^ 4 → x ≤ 15)
+      → (low + weight * x < 2 ^ 32) × (scaled low weight (lastGroup (eqb i at) x (i + 1)) ≡ numberAt b at)
   unfolding groups
   reading-last short fifth = go (r .left) (r .weighs) next
     where
-      go : (k : ℕ) → weight * 128 ^ k ≡ 268435456 → Next k
-          → (low + weight * x < 4294967296) × (scaled low weight (lastGroup (eqb i at) x (i + 1)) ≡ numberAt b at)
+      go : (k : ℕ) → weight * 128 ^ k ≡ 128 ^ 4 → Next k
+          → (low + weight * x < 2 ^ 32) × (scaled low weight (lastGroup (eqb i at) x (i + 1)) ≡ numberAt b at)
       go zero e is =
           let f = fifth (omega arith) in
           (omega (arith, mul-le-mul-left weight f, r .under), rw (le-ltb 15 x f) at is)
@@ -90,11 +90,11 @@ module _ {b : List ℕ} {at i low weight : ℕ} (r : Reading b at i low weight) 
         rw (lt-ltb x 128 short) at is,
       )
 
-  pub reading-more : x < 256 → 128 ≤ x → (weight ≡ 268435456 → x ≤ 15) → Reading b at (i + 1) (low + weight * (x - 128)) (weight * 128)
+  pub reading-more : x < 256 → 128 ≤ x → (weight ≡ 128 ^ 4 → x ≤ 15) → Reading b at (i + 1) (low + weight * (x - 128)) (weight * 128)
   unfolding groups
   reading-more octet more fifth = go (r .left) (r .weighs) next
     where
-      go : (k : ℕ) → weight * 128 ^ k ≡ 268435456 → Next k → Reading b at (i + 1) (low + weight * (x - 128)) (weight * 128)
+      go : (k : ℕ) → weight * 128 ^ k ≡ 128 ^ 4 → Next k → Reading b at (i + 1) (low + weight * (x - 128)) (weight * 128)
       go zero e is = absurd (omega (arith, fifth (omega arith)))
       go (suc k) e is =
           let small : x - 128 ≤ 127 = omega arith in
@@ -108,7 +108,7 @@ module _ {b : List ℕ} {at i low weight : ℕ} (r : Reading b at i low weight) 
                 (rw (le-ltb x 128 more) at is);
           }
 
-pub reading-weight : {b : List ℕ} {at i low weight : ℕ} → Reading b at i low weight → weight ≤ 268435456
+pub reading-weight : {b : List ℕ} {at i low weight : ℕ} → Reading b at i low weight → weight ≤ 128 ^ 4
 reading-weight {weight = w} r = weight-le w (r .left) (r .weighs)
 
 pub reading-end : {b : List ℕ} {at i low weight : ℕ} → Reading b at i low weight → length b ≤ i → Number.Refused Cause.Missing ≡ numberAt b at

@@ -6,6 +6,7 @@ use mathlib.Core.List.{List, [], _∷_}
 use mathlib.Core.Bool.{Bool, true, false, cond, not, _&&_}
 use lib.Dec.{eqb, ltb}
 use lib.ListN.{drop}
+use Rattle.answers.specs.Refusals.{causeNumber}
 use Rattle.answers.specs.declared.layout.Cause.the-variants as Cause
 use Rattle.numbers.specs.declared.Number.{Number}
 use Rattle.numbers.specs.declared.Number.the-variants as Number
@@ -28,3 +29,13 @@ groups (suc k) first i (x ∷ xs) = cond (ltb x 128) (lastGroup first x (i + 1))
 -- five bytes at most
 abbrev pub numberAt : List ℕ → ℕ → Number
 numberAt b at = groups 4 true at (drop at b)
+
+-- 01's number of a reading, 0 where a number was read
+abbrev pub readRefusal : Number → ℕ
+readRefusal (Number.Value v next) = 0
+readRefusal (Number.Refused c) = causeNumber c
+
+-- the number that was read, 0 where it is refused
+abbrev pub readValue : Number → ℕ
+readValue (Number.Value v next) = v
+readValue (Number.Refused c) = 0

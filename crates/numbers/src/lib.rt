@@ -1,8 +1,9 @@
 // The numbers of a layout: groups of seven bits, low group first, in the shortest form.
 use answers::layout::Cause;
+use answers::layout::cause_number;
 ghost use mathlib.Core.Path.{_≡_};
-ghost use Prim.Native.Nat.{_+_, _*_, _<_};
-ghost use Rattle.numbers.specs.Number.{lastGroup, numberAt};
+ghost use Prim.Native.Nat.{_+_, _*_, _^_, _<_};
+ghost use Rattle.numbers.specs.Number.{lastGroup, numberAt, readRefusal, readValue};
 ghost use Rattle.numbers.specs.Groups.{scaled};
 
 // A number that was read, with the offset after it, or why there is none.
@@ -11,9 +12,12 @@ pub enum Number {
     Refused(Cause),
 }
 
+// The weight of a fifth group, 128 to the 4th.
+const FIFTH_WEIGHT: u32 = 268435456;
+
 // The last byte x of a number, over the value of the groups before it.
 fn last_group(first: bool, x: u8, low: u32, weight: u32, next: usize) -> Number
-    requires { ⌜ low + weight * x < 4294967296 ⌝ }
+    requires { ⌜ low + weight * x < 2 ^ 32 ⌝ }
     ensures { λ r. ⌜ r ≡ scaled low weight (lastGroup first x next) ⌝ }
 {
     if x == 0 {
@@ -36,7 +40,7 @@ pub fn read_number(bytes: &[u8], at: usize) -> Number
     let mut weight: u32 = 1;
     while i < bytes.len() {
         let x = bytes[i];
-        if weight == 268435456 {
+        if weight == FIFTH_WEIGHT {
             if 15 < x {
                 return Number::Refused(Cause::BadForm);
             }
@@ -49,4 +53,24 @@ pub fn read_number(bytes: &[u8], at: usize) -> Number
         i += 1;
     }
     Number::Refused(Cause::Missing)
+}
+
+// 01's number of what was read, 0 where nothing is refused.
+pub fn read_refusal(number: Number) -> u32
+    ensures { λ r. ⌜ r ≡ readRefusal number ⌝ }
+{
+    match number {
+        Number::Value { value: _, next: _ } => 0,
+        Number::Refused(cause) => cause_number(cause),
+    }
+}
+
+// The number that was read, 0 where it is refused.
+pub fn read_value(number: Number) -> u32
+    ensures { λ r. ⌜ r ≡ readValue number ⌝ }
+{
+    match number {
+        Number::Value { value, next: _ } => value,
+        Number::Refused(_) => 0,
+    }
 }

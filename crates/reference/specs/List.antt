@@ -7,12 +7,12 @@ use mathlib.Core.Bool.{Bool, true}
 use native.Mathlib.Omega.{arith}
 use native.Mathlib.Nat.{mul-le-mul-left}
 use Rattle.layout.specs.Step.{Step, Reading, listed}
-use Rattle.layout.specs.Reader.{stepAt, stepsAt}
+use Rattle.layout.specs.Reader.{stepAt, stepsAt, stepOffset}
 use Rattle.layout.specs.Machine.{done, allDone, madeOf}
 use Rattle.layout.specs.Views.{write-view, multi-view}
 use Rattle.layout.specs.Targets.{numbersAt, Roomy, targets-numbers}
 use Rattle.layout.specs.Accepting.{isRead}
-use Rattle.layout.specs.First.{nextOf, stepOf, steps-none, steps-first}
+use Rattle.layout.specs.First.{stepOf, steps-none, steps-first}
 use Rattle.layout.specs.declared.step.StepAt.{StepAt}
 use Rattle.layout.specs.declared.step.StepAt.the-variants as StepAt
 
@@ -38,11 +38,11 @@ module _ (l f : ℕ) (own : ℕ → Bool) (b : List ℕ) where
   none-done n at m e = rw (made-listed l (stepsAt l f own b n at) m, steps-none l f own b n at e)
 
   pub step-made : (n at : ℕ) (s : StepAt) (m : List ℕ) → stepAt l f own b at ≡ s → 0 < n → isRead (stepsAt l f own b n at) ≡ true
-      → (isRead (stepsAt l f own b (n - 1) (nextOf s)) ≡ true)
-      × (madeOf l (stepsAt l f own b (n - 1) (nextOf s)) (allDone l (stepOf l b s) m) ≡ madeOf l (stepsAt l f own b n at) m)
+      → (isRead (stepsAt l f own b (n - 1) (stepOffset s)) ≡ true)
+      × (madeOf l (stepsAt l f own b (n - 1) (stepOffset s)) (allDone l (stepOf l b s) m) ≡ madeOf l (stepsAt l f own b n at) m)
   step-made n at s m e h t =
       let split = steps-first l f own b n at s e h t in
-      let rest = stepsAt l f own b (n - 1) (nextOf s) in (
+      let rest = stepsAt l f own b (n - 1) (stepOffset s) in (
         split .0,
         rw (made-listed l (stepsAt l f own b n at) m, made-listed l rest (allDone l (stepOf l b s) m), split .1, done-append l (stepOf l b s) (listed rest) m),
       )

@@ -14,21 +14,21 @@ ghost use Prim.Native.Nat.{_≤_};
 ghost use lib.ListN.{length};
 ghost use Rattle.parts.specs.Device.{lengthAt, countAt, memoryAt};
 ghost use Rattle.layout.specs.Range.{owns};
-ghost use Rattle.layout.specs.Reader.{stepsAt};
+ghost use Rattle.layout.specs.Reader.{stepsAt, stepOffset};
 ghost use Rattle.layout.specs.Layout.{layoutRead};
 ghost use Rattle.layout.specs.Machine.{allDone, madeOf, machine};
 ghost use Rattle.layout.specs.Accepting.{isRead};
-ghost use Rattle.layout.specs.First.{nextOf, stepOf, StepBytes};
+ghost use Rattle.layout.specs.First.{stepOf, StepBytes};
 ghost use Rattle.reference.specs.List.{StepRoom};
 
-// Does one step that was read. Returns the offset after it.
+// Does one step that was read. Returns the offset that it tells.
 fn apply_step(l: usize, layout: &[u8], step: StepAt, memory: &mut [u8]) -> usize
     requires { ⌜ (l ≤ 213) × StepBytes l (now layout) step × StepRoom l (now layout) (length (now memory)) step ⌝ }
-    ensures { λ r. ⌜ r ≡ nextOf step ⌝ }
+    ensures { λ r. ⌜ r ≡ stepOffset step ⌝ }
     ensures { λ _. ⌜ now (memory .exit) ≡ allDone l (stepOf l (now (layout .entry)) step) (now (memory .entry)) ⌝ }
 {
     match step {
-        StepAt::Refused { cause: _, at: _ } => 0,
+        StepAt::Refused { cause: _, at } => at,
         StepAt::FrameWrite {
             first,
             count,

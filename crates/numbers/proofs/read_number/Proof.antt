@@ -2,7 +2,7 @@
 -- that were, give the number.
 use mathlib.Core.Path.{_≡_}
 use mathlib.Core.Logic.{⊎-elim}
-use Prim.Native.Nat.{_-_, _≤_}
+use Prim.Native.Nat.{_-_, _^_, _≤_}
 use native.Mathlib.Omega.{arith}
 use lib.ListN.{length, getD}
 use borrow.Author.Needs.{needs}
@@ -20,7 +20,7 @@ abbrev μ-loop : tie.MeasureT-loop
 -- past the first test a fifth byte is at most 15
 fifth : (c : tie.Joined1 Inv-loop μ-loop) →
     let l = c .before .before .before .loop in
-    l .weight ≡ 268435456 → getD (now (c .before .before .before .before .before .args .bytes)) (l .i) 0 ≤ 15
+    l .weight ≡ 128 ^ 4 → getD (now (c .before .before .before .before .before .args .bytes)) (l .i) 0 ≤ 15
 fifth c e = ⊎-elim (λ w. omega arith) (λ w. absurd (omega arith)) (c .if1 .came)
 
 loop-again : tie.Need-loop-again Inv-loop μ-loop

@@ -11,9 +11,9 @@ use denote.Ref.{now}
 use Rattle.parts.specs.Device.{lengthAt, countAt}
 use Rattle.layout.specs.Range.{owns}
 use Rattle.layout.specs.Step.{listed}
-use Rattle.layout.specs.Reader.{stepsAt}
+use Rattle.layout.specs.Reader.{stepsAt, stepOffset}
 use Rattle.layout.specs.Accepting.{isRead}
-use Rattle.layout.specs.First.{nextOf, stepOf, step-bytes}
+use Rattle.layout.specs.First.{stepOf, step-bytes}
 use Rattle.stream.specs.Stream.{stepsPackets}
 use Rattle.compiler.specs.Writing.{Room, front-room, written-length, joined, joined-room, nothing, Remains}
 use Rattle.compiler.specs.Stepping.{none-put, step-put, step-count}
@@ -35,7 +35,7 @@ first : (c : tie.After-read-step Inv-loop μ-loop) →
     let l = c .before .before .loop in
     let a = c .before .before .before .before .before .args in
     let L = lengthAt (a .device) in
-    let rest = stepsAt L (countAt (a .device)) (owns (a .range)) (now (a .layout)) (l .left - 1) (nextOf (c .read-step .result)) in
+    let rest = stepsAt L (countAt (a .device)) (owns (a .range)) (now (a .layout)) (l .left - 1) (stepOffset (c .read-step .result)) in
     (isRead rest ≡ true)
     × (stepsPackets (a .device) (listed (stepsAt L (countAt (a .device)) (owns (a .range)) (now (a .layout)) (l .left) (l .at)))
     ≡ stepsPackets (a .device) (stepOf L (now (a .layout)) (c .read-step .result)) ++ stepsPackets (a .device) (listed rest))
@@ -63,8 +63,8 @@ put-step-requires c κs =
       front-room (l .output) (l .last) _ _ (subst (Room (l .output) (l .last)) (first (c .before) .1) (l .inv .1)),
     )
 
-next-of-requires : tie.Need-next-of-requires Inv-loop μ-loop
-next-of-requires c κs = search needs
+step-offset-requires : tie.Need-step-offset-requires Inv-loop μ-loop
+step-offset-requires c κs = search needs
 
 sub-left : tie.Need-sub-left Inv-loop μ-loop
 sub-left c = omega arith
@@ -77,7 +77,7 @@ loop-again c =
     let l = c .before .before .before .before .before .before .before .loop in
     let split = first (c .before .before .before .before .before) in
     let turn = c .before .before .before .put-step .ensures in
-    rw (c .next-of .ensures) (
+    rw (c .step-offset .ensures) (
       split .0,
       joined-room turn _ (subst (Room (l .output) (l .last)) (split .1) (l .inv .1)),
       written-length turn ∙ l .inv .2,
@@ -103,7 +103,7 @@ put-steps-spec =
     loop-holds
     read-step-requires
     put-step-requires
-    next-of-requires
+    step-offset-requires
     sub-left
     loop-less
     loop-again
