@@ -1,7 +1,7 @@
 // The check of a layout: the desk's own numbers, then edition, device, step count and the list of steps.
 use crate::FrameRange;
 use crate::step::StepAt;
-use crate::step::read_step;
+use crate::step::step_at;
 use answers::layout::Cause;
 use answers::layout::Verdict;
 use numbers::Number;
@@ -41,7 +41,7 @@ fn layout_steps(device: u32, range: FrameRange, layout: &[u8], count: u32, start
     let mut words: u64 = 12;
     let mut left: u32 = count;
     while 0 < left {
-        let step = read_step(device, range, layout, at);
+        let step = step_at(device, range, layout, at);
         match step {
             StepAt::Refused { cause, at: told } => {
                 return refused(cause, told);

@@ -20,5 +20,5 @@ pub struct FrameRange {
 pub fn check(device: u32, range: FrameRange, layout: &[u8]) -> Verdict
     ensures { λ r. ⌜ r ≡ check device range (now (layout .entry)) ⌝ }
 {
-    LayoutReader::new(layout).check(device, range)
+    LayoutReader::new(layout, 0).check(device, range)
 }

@@ -1,12 +1,11 @@
 // The layout reader: a lent layout, and the offset reached in it. Its functions take it apart and call those on slice and offset.
 use crate::FrameRange;
 use crate::head::check_at;
-use crate::step::bytes_left;
+use crate::step::StepAt;
+use crate::step::step_at;
 use answers::layout::Verdict;
-use numbers::Number;
-use numbers::read_number;
 ghost use mathlib.Core.Path.{_≡_};
-ghost use Rattle.layout.specs.LayoutReader.{opened, offset, left, number, moved, check};
+ghost use Rattle.layout.specs.LayoutReader.{opened, step, check};
 
 pub struct LayoutReader<'a> {
     pub layout: &'a [u8],
@@ -14,42 +13,18 @@ pub struct LayoutReader<'a> {
 }
 
 impl<'a> LayoutReader<'a> {
-    // A reader at the layout's first byte.
-    pub fn new(layout: &'a [u8]) -> LayoutReader<'a>
-        ensures { λ r. ⌜ r ≡ opened (layout .entry) ⌝ }
+    // A reader of the layout, at an offset.
+    pub fn new(layout: &'a [u8], at: usize) -> LayoutReader<'a>
+        ensures { λ r. ⌜ r ≡ opened (layout .entry) at ⌝ }
     {
-        LayoutReader { layout, at: 0 }
+        LayoutReader { layout, at }
     }
 
-    // The offset reached.
-    pub fn offset(self) -> usize
-        ensures { λ n. ⌜ n ≡ offset (self .entry) ⌝ }
+    // The step at the offset.
+    pub fn step(self, device: u32, range: FrameRange) -> StepAt
+        ensures { λ r. ⌜ r ≡ step device range (self .entry) ⌝ }
     {
-        self.at
-    }
-
-    // How many bytes are left from the offset on, 0 past the end.
-    pub fn left(self) -> usize
-        ensures { λ n. ⌜ n ≡ left (self .entry) ⌝ }
-    {
-        bytes_left(self.layout, self.at)
-    }
-
-    // The number at the offset, with the offset after it, or why there is none.
-    pub fn read_number(self) -> Number
-        ensures { λ n. ⌜ n ≡ number (self .entry) ⌝ }
-    {
-        read_number(self.layout, self.at)
-    }
-
-    // The reader of the same layout at another offset. No enum may hold a reader, so reading a number and going on are two functions.
-    pub fn moved(self, at: usize) -> LayoutReader<'a>
-        ensures { λ r. ⌜ r ≡ moved (self .entry) at ⌝ }
-    {
-        LayoutReader {
-            layout: self.layout,
-            at,
-        }
+        step_at(device, range, self.layout, self.at)
     }
 
     // Checks the layout that begins at the offset.

@@ -1,6 +1,7 @@
 // One step of a layout.
 use crate::FrameRange;
 use crate::range::owns_run;
+use crate::reader::LayoutReader;
 use crate::targets::multi_targets;
 use answers::layout::Cause;
 use answers::layout::cause_number;
@@ -48,7 +49,7 @@ fn refused(cause: Cause, at: usize) -> StepAt
 }
 
 // How many bytes are left from an offset on, 0 past the end.
-pub(crate) fn bytes_left(layout: &[u8], at: usize) -> usize
+fn bytes_left(layout: &[u8], at: usize) -> usize
     ensures { λ r. ⌜ r ≡ length (now (layout .entry)) - at ⌝ }
 {
     if layout.len() < at {
@@ -165,8 +166,8 @@ fn multi_count(device: u32, range: FrameRange, layout: &[u8], at: usize) -> Step
     }
 }
 
-// The step at an offset. A device that names no part is not refused 21: the step has no frames to name, and is refused 31 or 34.
-pub fn read_step(device: u32, range: FrameRange, layout: &[u8], at: usize) -> StepAt
+// The step at an offset.
+pub(crate) fn step_at(device: u32, range: FrameRange, layout: &[u8], at: usize) -> StepAt
     ensures { λ r. ⌜ r ≡ deskStep device range (now (layout .entry)) at ⌝ }
 {
     let kind = read_number(layout, at);
@@ -182,6 +183,14 @@ pub fn read_step(device: u32, range: FrameRange, layout: &[u8], at: usize) -> St
             refused(Cause::UnknownKind, at)
         }
     }
+}
+
+// The step at an offset, read by a reader of the layout. A device that names no part is not refused 21: no frame is in its part, so that
+// the step is refused 31 or 34.
+pub fn read_step(device: u32, range: FrameRange, layout: &[u8], at: usize) -> StepAt
+    ensures { λ r. ⌜ r ≡ deskStep device range (now (layout .entry)) at ⌝ }
+{
+    LayoutReader::new(layout, at).step(device, range)
 }
 
 // 01's number of a step, 0 where it was read.

@@ -1,9 +1,16 @@
-// Prints document 01's worked examples of layouts, and a way to each refusal, as the proved library answers them.
+// Prints document 01's worked examples of layouts, a way to each refusal, and what single numbers and steps answer, as the proved library
+// answers them.
 use answers::layout::verdict_number;
 use answers::layout::verdict_value;
 use layout::FrameRange;
 use layout::check;
+use layout::step::read_step;
+use layout::step::step_offset;
+use layout::step::step_refusal;
 use libc::STDOUT_FILENO;
+use numbers::read_number;
+use numbers::read_refusal;
+use numbers::read_value;
 
 fn text(s: &[u8]) {
     io::write_all(STDOUT_FILENO, s);
@@ -29,6 +36,41 @@ fn print_check(label: &[u8], device: u32, range: FrameRange, layout: &[u8]) {
     decimal(number as u64);
     text(b" at ");
     decimal(value);
+    text(b"\n");
+}
+
+// A label, then the number that the bytes begin with, or the refusal.
+fn print_number(label: &[u8], bytes: &[u8]) {
+    let number = read_number(bytes, 0);
+    let refusal = read_refusal(number);
+    text(label);
+    if refusal == 0 {
+        text(b": number ");
+        decimal(read_value(number) as u64);
+        text(b"\n");
+        return;
+    }
+    text(b": refused ");
+    decimal(refusal as u64);
+    text(b"\n");
+}
+
+// A label, then the offset after the step that begins at offset 3, or the refusal and its offset.
+fn print_step(label: &[u8], device: u32, layout: &[u8]) {
+    let step = read_step(device, whole(), layout, 3);
+    let refusal = step_refusal(step);
+    let offset = step_offset(step);
+    text(label);
+    if refusal == 0 {
+        text(b": ends at ");
+        decimal(offset as u64);
+        text(b"\n");
+        return;
+    }
+    text(b": ");
+    decimal(refusal as u64);
+    text(b" at ");
+    decimal(offset as u64);
     text(b"\n");
 }
 
@@ -169,10 +211,40 @@ fn print_multi_frame_writes() {
     print_check(b"kind 2, count 369", 0, whole(), &b[..156]);
 }
 
+// Numbers of one byte and of several, and those that are malformed.
+fn print_numbers() {
+    print_number(b"00", b"\x00");
+    print_number(b"7f", b"\x7F");
+    print_number(b"80 01", b"\x80\x01");
+    print_number(b"ff ff ff ff 0f", b"\xFF\xFF\xFF\xFF\x0F");
+    print_number(b"ff ff ff ff 10", b"\xFF\xFF\xFF\xFF\x10");
+    print_number(b"80 00", b"\x80\x00");
+    print_number(b"80", b"\x80");
+}
+
+// Steps by themselves, for the XC3S50 and for a device that names no part.
+fn print_steps() {
+    let mut b = [0u8; 154];
+    b[3] = 1;
+    b[5] = 1;
+    print_step(b"step of kind 1", 0, &b);
+    print_step(b"step of kind 1, device 8", 8, &b);
+    b[5] = 0;
+    print_step(b"step of kind 1, count 0, device 8", 8, &b);
+    b[3] = 2;
+    b[4] = 1;
+    print_step(b"step of kind 2", 0, &b);
+    print_step(b"step of kind 2, device 8", 8, &b);
+    b[3] = 3;
+    print_step(b"step of kind 3, device 8", 8, &b);
+}
+
 fn main() {
     print_heads();
     print_ranges();
     print_counts();
     print_frame_writes();
     print_multi_frame_writes();
+    print_numbers();
+    print_steps();
 }

@@ -44,17 +44,17 @@ cast-length c = search needs
 loop-holds : tie.Need-loop-holds Inv-loop μ-loop
 loop-holds c = (omega arith, sym (verdict-summed _ _))
 
-read-step-requires : tie.Need-read-step-requires Inv-loop μ-loop
-read-step-requires c κs = search needs
+step-at-requires : tie.Need-step-at-requires Inv-loop μ-loop
+step-at-requires c κs = search needs
 
 -- the step that was read is the one of the definition
-stepped : (c : tie.After-read-step Inv-loop μ-loop) →
+stepped : (c : tie.After-step-at Inv-loop μ-loop) →
     let a = c .before .before .before .before .before .before .args in
-    stepAt (lengthAt (a .device)) (countAt (a .device)) (owns (a .range)) (now (a .layout)) (c .before .before .loop .at) ≡ c .read-step .result
-stepped c = sym (c .read-step .ensures)
+    stepAt (lengthAt (a .device)) (countAt (a .device)) (owns (a .range)) (now (a .layout)) (c .before .before .loop .at) ≡ c .step-at .result
+stepped c = sym (c .step-at .ensures)
 
 -- a step of either kind has a count of at most F, so at most 414505 words
-write-bound : (c : tie.After-read-step Inv-loop μ-loop) (n k body next : ℕ) → c .read-step .result ≡ StepAt.FrameWrite n k body next
+write-bound : (c : tie.After-step-at Inv-loop μ-loop) (n k body next : ℕ) → c .step-at .result ≡ StepAt.FrameWrite n k body next
     → (k ≤ 1945) × ((k + 1) * c .before .before .before .value-of .result ≤ 414498)
 write-bound c n k body next e =
     let d = c .before .before .before .before .before .before .args .device in
@@ -62,7 +62,7 @@ write-bound c n k body next e =
     let few : k ≤ 1945 = omega (arith, v .part, count-fits d) in
     (few, mul-le-mul {n₁ = k + 1} {n₂ = 1946} {m₂ = 213} (omega arith) (omega (arith, frame-words (c .before .before .before), length-fits d)))
 
-multi-bound : (c : tie.After-read-step Inv-loop μ-loop) (k body targets next : ℕ) → c .read-step .result ≡ StepAt.MultiFrameWrite k body targets next
+multi-bound : (c : tie.After-step-at Inv-loop μ-loop) (k body targets next : ℕ) → c .step-at .result ≡ StepAt.MultiFrameWrite k body targets next
     → (k ≤ 1945) × (c .before .before .before .value-of .result ≤ 213)
 multi-bound c k body targets next e =
     let d = c .before .before .before .before .before .before .args .device in
@@ -165,7 +165,7 @@ layout-steps-spec =
     value-of-requires
     cast-length
     loop-holds
-    read-step-requires
+    step-at-requires
     enum-known-step
     refused-requires
     returns
