@@ -8,6 +8,7 @@ use denote.Triple.Table.{cited}
 use Rattle.answers.proofs.layout.Verdict as S
 use Rattle.answers.proofs.layout.Verdict.Laws as S′
 use Rattle.layout.specs.Layout.{checkAt}
+use Rattle.layout.specs.LayoutReader.{check}
 use Rattle.layout.proofs.head.check_at as callee
 use Rattle.layout.proofs.head.check_at.Symbol as callee-def
 use Rattle.layout.proofs.head.check_at.Symbol.{name as #callee}
@@ -20,5 +21,5 @@ use Rattle.layout.proofs.Apart.{taken-apart}
 pub check-spec : {M : Type 1} → stated.statement M
 unfolding code.routine tablesOf
 check-spec 𝓤 H 𝓜 𝓖 𝓡 =
-    taken-apart S.the-row checkAt 𝓤 H 𝓜 𝓖 𝓡 code.env #check #callee S′.mir (EL.lawful S.the-type S′.the-laws 𝓤 H (𝓖 .A) (givenOf 𝓤 H 𝓜 𝓖) tt) refl (code.unfolded 𝓤 H 𝓜 𝓡)
+    taken-apart S.the-row checkAt check 𝓤 H 𝓜 𝓖 𝓡 code.env #check #callee S′.mir (λ device range d. refl) (EL.lawful S.the-type S′.the-laws 𝓤 H (𝓖 .A) (givenOf 𝓤 H 𝓜 𝓖) tt) refl (code.unfolded 𝓤 H 𝓜 𝓡)
     (cited 𝓤 H (tripleOf 𝓤 H (𝓖 .A) callee.signature (callee.spec 𝓤 H (𝓖 .A) (𝓜 .mem) (𝓡 .run))) 𝓜 𝓡 code.env #callee callee-def.routine code.calls-layout·head·check-at (callee-thm.met 𝓤 H 𝓜 𝓖 𝓡))
