@@ -6,7 +6,7 @@ use mathlib.Core.Bool.{Bool, true, false, _&&_}
 use lib.Dec.{eqb}
 use lib.ListN.{length}
 use Rattle.device.specs.declared.Device.{Device}
-use Rattle.image.specs.Image.{image}
+use Rattle.image.specs.Image.{recordLength, image}
 use Rattle.image.specs.Decode.{decoded}
 
 -- the second list starts with the first
@@ -17,7 +17,7 @@ starts (x ∷ xs) (y ∷ ys) = eqb y x && starts xs ys
 
 -- the bytes are the record's image
 unfoldable pub isImage : Device → List ℕ → Bool
-isImage d bytes = eqb (length bytes) 948 && starts (image d) bytes
+isImage d bytes = eqb (length bytes) recordLength && starts (image d) bytes
 
 -- bytes that are the image of the record that they decode to; that the record is consistent is judged by config
 abbrev pub accepted : List ℕ → Bool

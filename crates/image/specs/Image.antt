@@ -119,10 +119,14 @@ headWords p c =
 abbrev pub imageWords : Device → List ℕ
 imageWords d = headWords (d .phase) (d .control) ++ d .frame
 
--- "948 bytes: 237 words of 32 bits, high byte first"
+-- "237 words of 32 bits, high byte first"
 unfoldable pub image : Device → List ℕ
 image d = bytesOf (imageWords d)
 
+-- "948 bytes"
+abbrev pub recordLength : ℕ
+recordLength = 948
+
 -- what writing a record into lent bytes leaves: the image where the length is its length, else the bytes as they were
 unfoldable pub encoded : Device → List ℕ → List ℕ
-encoded d bytes = cond (eqb (length bytes) 948) (image d) bytes
+encoded d bytes = cond (eqb (length bytes) recordLength) (image d) bytes

@@ -14,7 +14,7 @@ use Rattle.parts.specs.Bytes.{bytes-length, bytes-append, sets-append, sets-all
 use Rattle.config.specs.declared.Phase.{Phase}
 use Rattle.config.specs.declared.Control.{Control}
 use Rattle.device.specs.declared.Device.{Device}
-use Rattle.image.specs.Image.{headWords, imageWords, image}
+use Rattle.image.specs.Image.{headWords, imageWords, image, recordLength}
 use Rattle.image.specs.Compare.{starts}
 use Rattle.image.specs.Decode.{wordAt, wordsAt}
 
@@ -114,7 +114,7 @@ unfolding headWords
 head-length p c = refl
 
 -- "948 bytes"
-pub image-length : (d : Device) → length (d .frame) ≡ 213 → length (image d) ≡ 948
+pub image-length : (d : Device) → length (d .frame) ≡ 213 → length (image d) ≡ recordLength
 unfolding image
 image-length d e =
     omega (arith, bytes-length (imageWords d), length-append (headWords (d .phase) (d .control)) (d .frame), head-length (d .phase) (d .control))
@@ -131,7 +131,7 @@ module _ (d : Device) where
   image-split = bytes-append (headWords (d .phase) (d .control)) (d .frame)
 
   -- the head's words stored, and then the frame's
-  pub sets-image : (bytes : List ℕ) → length (d .frame) ≡ 213 → length bytes ≡ 948 → sets (sets bytes 0 head) 96 (bytesOf (d .frame)) ≡ image d
+  pub sets-image : (bytes : List ℕ) → length (d .frame) ≡ 213 → length bytes ≡ recordLength → sets (sets bytes 0 head) 96 (bytesOf (d .frame)) ≡ image d
   sets-image bytes e h =
       let n : 96 ≡ 0 + length head = omega (arith, head-bytes) in
       ap (λ k. sets (sets bytes 0 head) k (bytesOf (d .frame))) n ∙ sym (sets-append bytes 0 head (bytesOf (d .frame)))

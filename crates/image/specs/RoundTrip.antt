@@ -18,7 +18,7 @@ use Rattle.config.specs.declared.Phase.the-variants as Phase
 use Rattle.parts.specs.Memory.{bytesOf}
 use Rattle.parts.specs.Bytes.{AreWords, words-join, word-bytes}
 use Rattle.device.specs.declared.Device.{Device}
-use Rattle.image.specs.Image.{wordsFilled, currentNumber, headWords, imageWords, image}
+use Rattle.image.specs.Image.{wordsFilled, currentNumber, headWords, imageWords, image, recordLength}
 use Rattle.image.specs.Compare.{isImage, starts, accepted}
 use Rattle.image.specs.Decode.{wordAt, wordsAt, controlOf, registersOf, decoded}
 use Rattle.image.specs.Range.{InRange, keptCurrent, keptPhase, keptControl, kept}
@@ -139,13 +139,13 @@ module _ (d : Device) (e : length (d .frame) ≡ 213) where
   -- the test tells the image of a record from all other bytes
   pub image-matches : isImage d (image d) ≡ true
   unfolding isImage
-  image-matches = rw (eq-eqb _ 948 (image-length d e)) (starts-self (image d))
+  image-matches = rw (eq-eqb _ recordLength (image-length d e)) (starts-self (image d))
 
   pub matches-image : (bytes : List ℕ) → isImage d bytes ≡ true → image d ≡ bytes
   unfolding isImage
   matches-image bytes h =
-      let both = and-eq-true-iff (eqb (length bytes) 948) (starts (image d) bytes) .0 h in
-      starts-equal (image d) bytes (omega (arith, eqb-true (length bytes) 948 (both .0), image-length d e)) (both .1)
+      let both = and-eq-true-iff (eqb (length bytes) recordLength) (starts (image d) bytes) .0 h in
+      starts-equal (image d) bytes (omega (arith, eqb-true (length bytes) recordLength (both .0), image-length d e)) (both .1)
 
 decoded-frame : (bytes : List ℕ) → length (decoded bytes .frame) ≡ 213
 unfolding decoded

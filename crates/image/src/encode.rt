@@ -1,4 +1,5 @@
 // A device record into its image, and the test that bytes are its image.
+use crate::RECORD_LENGTH;
 use crate::head::head;
 use crate::words::has_words;
 use crate::words::put_words;
@@ -11,7 +12,7 @@ ghost use Rattle.image.specs.Compare.{isImage};
 pub fn encode(device: Device, image: &mut [u8])
     ensures { λ _. ⌜ now (image .exit) ≡ encoded device (now (image .entry)) ⌝ }
 {
-    if image.len() != 948 {
+    if image.len() != RECORD_LENGTH {
         return;
     }
     let phase = device.phase;
@@ -26,7 +27,7 @@ pub fn encode(device: Device, image: &mut [u8])
 pub fn matches(device: Device, image: &[u8]) -> bool
     ensures { λ r. ⌜ r ≡ isImage device (now (image .entry)) ⌝ }
 {
-    if image.len() != 948 {
+    if image.len() != RECORD_LENGTH {
         return false;
     }
     let phase = device.phase;

@@ -24,7 +24,7 @@ use Rattle.loader.specs.Load.{load}
 use Rattle.loader.specs.Pieces.{load-inconsistent, load-wrong-memory}
 use Rattle.layout.specs.declared.FrameRange.{FrameRange}
 use Rattle.reconfigure.specs.Reconfigured.{isHunting, Reconfigured, reconfiguredAfter, reconfigured, inconsistent-so}
-use Rattle.image.specs.Image.{encoded}
+use Rattle.image.specs.Image.{recordLength, encoded}
 use Rattle.image.specs.Decode.{decoded}
 use Rattle.image.specs.Compare.{isImage, accepted}
 use Rattle.image.specs.RoundTrip.{accepted-image}
@@ -46,7 +46,7 @@ resultOf o r = record { code = answerNumber (o .answer); image = encoded (o .dev
 
 -- "22 where record_len is not 948, judged first, and then nothing is written"
 unfoldable pub poweredImage : ℕ → List ℕ → List ℕ → Result
-poweredImage d r m = cond (eqb (length r) 948) (resultOf (powerOn d m) r) (refusedImage r m)
+poweredImage d r m = cond (eqb (length r) recordLength) (resultOf (powerOn d m) r) (refusedImage r m)
 
 -- "An image that is the image of no consistent record is refused with 22, and nothing is changed": bytes that are no image
 -- here, the image of an inconsistent record by load itself
@@ -85,17 +85,17 @@ compared i d same e f = rw (← e) (sym f)
 written-back : (i : List ℕ) → accepted i ≡ true → encoded (decoded i) i ≡ i
 unfolding encoded isImage
 written-back i h =
-    let sized = and-eq-true-iff (eqb (length i) 948) _ .0 h .0 in
+    let sized = and-eq-true-iff (eqb (length i) recordLength) _ .0 h .0 in
     rw (sized, accepted-image i h)
 
 module _ (d : ℕ) (r m : List ℕ) where
-  pub powered-refused : length r ≢ 948 → poweredImage d r m ≡ refusedImage r m
+  pub powered-refused : length r ≢ recordLength → poweredImage d r m ≡ refusedImage r m
   unfolding poweredImage
-  powered-refused h = rw (ne-eqb (length r) 948 h)
+  powered-refused h = rw (ne-eqb (length r) recordLength h)
 
-  pub powered-done : length r ≡ 948 → poweredImage d r m ≡ resultOf (powerOn d m) r
+  pub powered-done : length r ≡ recordLength → poweredImage d r m ≡ resultOf (powerOn d m) r
   unfolding poweredImage
-  powered-done h = rw (eq-eqb (length r) 948 h)
+  powered-done h = rw (eq-eqb (length r) recordLength h)
 
 module _ (r m s : List ℕ) where
   pub loaded-refused : accepted r ≡ false → loadedImage r m s ≡ refusedImage r m

@@ -116,7 +116,7 @@ pub extern "C" fn sw_power_on(device: u32, state: &mut [u8], memory: &mut [u8]) 
     ensures { λ _. ⌜ now (state .exit) ≡ poweredImage device (now (state .entry)) (now (memory .entry)) .image ⌝ }
     ensures { λ _. ⌜ now (memory .exit) ≡ poweredImage device (now (state .entry)) (now (memory .entry)) .memory ⌝ }
 {
-    if state.len() != 948 {
+    if state.len() != image::RECORD_LENGTH {
         return 22;
     }
     let on = device::power_on(device, memory);
