@@ -7,3 +7,7 @@ pub mod Numbers
 pub mod Read
 pub mod RoundTrip
 pub mod Refusal
+pub mod AcceptedImages
+pub mod Remembered
+pub mod ByteLossless
+pub mod FreshRecord

@@ -75,3 +75,8 @@ keptControl p c = record { device = c .device; registers = c .registers; flags =
 -- the record as its image has it
 abbrev pub kept : Device → Device
 kept d = record { phase = keptPhase (d .phase); control = keptControl (d .phase) (d .control); frame = d .frame }
+
+-- a record of which its image loses nothing
+pub record Lossless (d : Device) : Type 0 where
+  pub range : InRange d
+  pub whole : kept d ≡ d

@@ -1,2 +1,4 @@
 pub mod Told
 pub mod Records
+pub mod LeftImages
+pub mod Pieces

@@ -1,0 +1,43 @@
+-- A load by pieces, with the record's image between them, ends as the joined load.
+-- The image between two pieces decodes to the very record that the first has left, so the loader's law joins them.
+use mathlib.Core.Path.{_≡_, _∙_, refl, sym, ap}
+use mathlib.Core.List.{List, _++_}
+use mathlib.Core.Bool.{Bool, true, false}
+use Prim.Native.Nat.{ℕ, _+_}
+use Rattle.parts.specs.Bytes.{AreBytes}
+use Rattle.answers.specs.Numbers.{answerNumber}
+use Rattle.device.specs.PowerOn.{Outcome}
+use Rattle.loader.specs.Load.{load}
+use Rattle.loader.specs.Safety.{load-pieces}
+use Rattle.image.specs.Image.{encoded}
+use Rattle.image.specs.Decode.{decoded}
+use Rattle.image.specs.Compare.{accepted}
+use Rattle.image.specs.AcceptedImages.{accepted-length, accepted-lossless, encoded-image, written-accepted, written-decoded}
+use Rattle.seamwillow.specs.Records.{Result, resultOf, loadedImage, loaded-refused, loaded-done}
+use Rattle.seamwillow.specs.LeftImages.{load-lossless}
+
+-- with n bytes taken before
+abbrev pub laterResult : ℕ → Result → Result
+laterResult n r = record { code = r .code; image = r .image; memory = r .memory; taken = n + r .taken }
+
+-- 01: "A load by pieces, cut at any byte, ends as the joined load": the number, the record's image, the memory and the bytes
+-- taken in all, whatever the image, the memory and the second piece are
+pub loaded-pieces : (i m a b : List ℕ) → AreBytes a
+    → loadedImage i m (a ++ b) ≡ laterResult (loadedImage i m a .taken) (loadedImage (loadedImage i m a .image) (loadedImage i m a .memory) b)
+loaded-pieces i m a b bytes = go (accepted i) refl
+  where
+    go : (t : Bool) → accepted i ≡ t
+        → loadedImage i m (a ++ b) ≡ laterResult (loadedImage i m a .taken) (loadedImage (loadedImage i m a .image) (loadedImage i m a .memory) b)
+    go false t = rw (loaded-refused i m (a ++ b) t, loaded-refused i m a t, loaded-refused i m b t)
+    go true t =
+        let d = decoded i in
+        let o = load d m a in
+        let j = encoded (o .device) i in
+        let k = load-lossless d m a bytes (accepted-lossless i t) in
+        let sized = accepted-length i t in
+        let again = written-accepted (o .device) i sized k in
+        let x = load (o .device) (o .memory) b in
+        let same : encoded (x .device) i ≡ encoded (x .device) j = encoded-image (x .device) i sized ∙ sym (encoded-image (x .device) j (accepted-length j again)) in
+        loaded-done i m (a ++ b) t ∙ ap (λ (y : Outcome). resultOf y i) (load-pieces d m a b (accepted-lossless i t .range .length))
+        ∙ ap (λ bytes. record { code = answerNumber (x .answer); image = bytes; memory = x .memory; taken = o .taken + x .taken }) same
+        ∙ sym (rw (loaded-done i m a t, loaded-done j (o .memory) b again, written-decoded (o .device) i sized k))
