@@ -83,7 +83,6 @@ pub fn g()
 }
 
 #[test]
-#[ignore = "until specs are cut in two"]
 fn no_theorem_stands_among_definitions() {
     let mut wrong = String::new();
     for file in specs().filter(|file| holds_definitions(file)) {
@@ -97,7 +96,6 @@ fn no_theorem_stands_among_definitions() {
 }
 
 #[test]
-#[ignore = "until specs are cut in two"]
 fn public_contracts_rest_on_definitions() {
     let reached = reached();
     assert!(reached.len() > 30, "{reached:?}");
@@ -109,7 +107,6 @@ fn public_contracts_rest_on_definitions() {
 }
 
 #[test]
-#[ignore = "until specs are cut in two"]
 fn every_module_of_specs_says_what_it_holds() {
     let mut wrong = String::new();
     for file in specs() {

@@ -1,6 +1,6 @@
 // Why a layout is refused, and what a check, an application or a compilation of one answers.
 ghost use mathlib.Core.Path.{_≡_};
-ghost use Rattle.answers.specs.Refusals.{causeNumber, verdictNumber, verdictValue};
+ghost use Rattle.answers.specs.LayoutRefusals.{causeNumber, verdictNumber, verdictValue};
 
 // Why a layout is refused. Missing: bytes are missing, or a number is cut short. Trailing: bytes follow the last step.
 pub enum Cause {

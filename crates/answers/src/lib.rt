@@ -26,7 +26,7 @@ pub enum Answer {
 }
 
 ghost use mathlib.Core.Path.{_≡_};
-ghost use Rattle.answers.specs.Numbers.{stopNumber, answerNumber};
+ghost use Rattle.answers.specs.StopNumbers.{stopNumber, answerNumber};
 
 // 01's number of a stop.
 pub fn stop_number(stop: Stop) -> u32

@@ -1,2 +1,1 @@
-pub mod Decimal
-pub mod Input
+pub mod Inner  -- vocabulary of private contracts and of loops, with its laws

@@ -1,7 +1,7 @@
 // The program's arguments: a device and a range, as decimal numbers.
 use layout::FrameRange;
 ghost use mathlib.Core.Path.{_≡_};
-ghost use Rattle.build.specs.Decimal.{parsed};
+ghost use Rattle.build.specs.Inner.Decimal.{parsed};
 
 // A number that was given, or text that is none.
 pub enum Parsed {

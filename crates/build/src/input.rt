@@ -1,6 +1,6 @@
 // Standard input into a buffer.
 use libc::STDIN_FILENO;
-ghost use Rattle.build.specs.Input.{Within};
+ghost use Rattle.build.specs.Inner.Input.{Within};
 
 // What was read. Whole: the bytes up to the end of the input. Full: the buffer is full.
 pub enum Input {

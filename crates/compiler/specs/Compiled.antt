@@ -6,10 +6,10 @@ use mathlib.Core.List.{List, [], _++_}
 use mathlib.Core.Bool.{cond}
 use lib.Dec.{ltb}
 use lib.ListN.{length, drop}
-use Rattle.parts.specs.Device.{lengthAt, countAt}
+use Rattle.parts.specs.Table.{lengthAt, countAt}
 use Rattle.answers.specs.declared.layout.Verdict.{Verdict}
 use Rattle.answers.specs.declared.layout.Verdict.the-variants as Verdict
-use Rattle.layout.specs.Range.{owns}
+use Rattle.layout.specs.Ownership.{owns}
 use Rattle.layout.specs.Step.{Step, Reading}
 use Rattle.layout.specs.Layout.{layoutRead, check}
 use Rattle.layout.specs.declared.FrameRange.{FrameRange}

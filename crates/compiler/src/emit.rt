@@ -13,11 +13,11 @@ use layout::step::read_step;
 use layout::step::step_offset;
 use numbers::Number;
 use numbers::read_number;
-use parts::device::frame_length;
-use parts::device::idcode;
-use parts::device::value_of;
 use parts::frame::AddressAnswer;
 use parts::frame::frame_address;
+use parts::table::frame_length;
+use parts::table::idcode;
+use parts::table::value_of;
 use registers::Register;
 use registers::command;
 ghost use mathlib.Core.Path.{_≡_};
@@ -25,21 +25,21 @@ ghost use mathlib.Core.Bool.{true};
 ghost use mathlib.Core.List.{[], _∷_};
 ghost use Prim.Native.Nat.{_+_, _≤_, _<_};
 ghost use lib.ListN.{length};
-ghost use Rattle.crc16.specs.Nibbles.{entries};
-ghost use Rattle.parts.specs.Device.{lengthAt, countAt};
-ghost use Rattle.parts.specs.Address.{addressTold};
-ghost use Rattle.layout.specs.Range.{owns};
+ghost use Rattle.crc16.specs.NibbleTable.{entries};
+ghost use Rattle.parts.specs.Table.{lengthAt, countAt};
+ghost use Rattle.parts.specs.FrameAddress.{addressTold};
+ghost use Rattle.layout.specs.Ownership.{owns};
 ghost use Rattle.layout.specs.Step.{listed};
-ghost use Rattle.layout.specs.Reader.{stepsAt};
+ghost use Rattle.layout.specs.StepReading.{stepsAt};
 ghost use Rattle.layout.specs.Layout.{layoutRead};
-ghost use Rattle.layout.specs.Targets.{numbersAt};
-ghost use Rattle.layout.specs.Accepting.{isRead};
-ghost use Rattle.layout.specs.First.{stepOf, StepBytes};
+ghost use Rattle.layout.specs.Inner.TargetNumbers.{numbersAt};
+ghost use Rattle.layout.specs.Laws.AcceptedLayout.{isRead};
+ghost use Rattle.layout.specs.Inner.FirstStep.{stepOf, StepBytes};
 ghost use Rattle.stream.specs.Stream.{toFrame, further, spreadPackets, stepsPackets, heading};
 ghost use Rattle.compiler.specs.Compiled.{streamFor, overwritten};
-ghost use Rattle.compiler.specs.Whole.{synced};
-ghost use Rattle.compiler.specs.Writing.{Room, Written, penAt};
-ghost use Rattle.compiler.specs.Stepping.{StepCount};
+ghost use Rattle.compiler.specs.Inner.WholeStream.{synced};
+ghost use Rattle.compiler.specs.Inner.PacketWriting.{Room, Written, cursorAt};
+ghost use Rattle.compiler.specs.Inner.StepPackets.{StepCount};
 
 // The frame address that an answer tells, 0 where it is refused.
 fn address_told(answer: AddressAnswer) -> u32
@@ -214,7 +214,7 @@ fn put_list(
 // Writes what stands before the steps.
 fn put_heading(table: &CrcTable, output: &mut [u8], device: u32) -> Cursor
     requires { ⌜ (now table ≡ entries 256 0) × (device ≤ 7) × (32 ≤ length (now output)) ⌝ }
-    ensures { λ r. ⌜ Written (synced (now (output .entry))) (penAt 8 0) (heading device) (now (output .exit)) r ⌝ }
+    ensures { λ r. ⌜ Written (synced (now (output .entry))) (cursorAt 8 0) (heading device) (now (output .exit)) r ⌝ }
 {
     put_word(output, 0, 0xFFFFFFFF);
     put_word(output, 4, 0xAA995566);

@@ -7,13 +7,13 @@ ghost use mathlib.Core.Path.{_≡_};
 ghost use mathlib.Core.List.{[], _∷_, _++_};
 ghost use Prim.Native.Nat.{ℕ, _+_, _*_, _≤_, _<_};
 ghost use lib.ListN.{length, drop, replicate};
-ghost use Rattle.crc16.specs.Register.{fedWords};
-ghost use Rattle.crc16.specs.Nibbles.{entries};
-ghost use Rattle.stream.specs.Packets.{Packet};
+ghost use Rattle.crc16.specs.CrcRegister.{fedWords};
+ghost use Rattle.crc16.specs.NibbleTable.{entries};
+ghost use Rattle.stream.specs.StreamPackets.{Packet};
 ghost use Rattle.stream.specs.Stream.{wordsFrom};
-ghost use Rattle.stream.specs.After.{crcAfter};
-ghost use Rattle.compiler.specs.Emitted.{putWords, emitted};
-ghost use Rattle.compiler.specs.Words.{wordAt};
+ghost use Rattle.stream.specs.Laws.PacketsJoined.{crcAfter};
+ghost use Rattle.compiler.specs.Inner.Emitted.{putWords, emitted};
+ghost use Rattle.compiler.specs.Inner.FrameDataWords.{wordAt};
 
 // The word at an offset of the layout, high byte first.
 fn word_at(layout: &[u8], i: usize) -> u32

@@ -7,11 +7,11 @@ ghost use mathlib.Core.Path.{_≡_};
 ghost use mathlib.Core.List.{[], _∷_};
 ghost use Prim.Native.Nat.{_+_, _≤_};
 ghost use lib.ListN.{length};
-ghost use Rattle.crc16.specs.Register.{feed};
-ghost use Rattle.crc16.specs.Nibbles.{entries};
-ghost use Rattle.stream.specs.Packets.{Packet};
-ghost use Rattle.stream.specs.After.{crcAfter};
-ghost use Rattle.compiler.specs.Emitted.{putWords, emitted};
+ghost use Rattle.crc16.specs.CrcRegister.{feed};
+ghost use Rattle.crc16.specs.NibbleTable.{entries};
+ghost use Rattle.stream.specs.StreamPackets.{Packet};
+ghost use Rattle.stream.specs.Laws.PacketsJoined.{crcAfter};
+ghost use Rattle.compiler.specs.Inner.Emitted.{putWords, emitted};
 
 // Where the next word goes, and the CRC so far.
 pub struct Cursor {

@@ -2,10 +2,11 @@
 use crate::Control;
 use crate::Current;
 use crate::Event;
-use crate::Fed;
 use crate::Flags;
+use crate::Open;
 use crate::Phase;
 use crate::Registers;
+use crate::Transition;
 use crate::command::act;
 use crate::figures::count_at;
 use crate::figures::idcode_at;
@@ -15,14 +16,13 @@ use crate::header::going;
 use crate::header::stopped;
 use crate::writes::write;
 use answers::Stop;
-use registers::Open;
 use registers::Register;
 use registers::command;
 use registers::is_fdri;
 ghost use mathlib.Core.Path.{_≡_};
 ghost use Prim.Native.Nat.{_<_};
-ghost use Rattle.config.specs.Control.{withRegisters, withFlags, withCurrent};
-ghost use Rattle.config.specs.Words.{ended, onward, put, checked, crcWord, farWord, cmdWord, stepped, frameStored, fdriWord, mfwrStored, mfwrWord, idcodeWord, flrWord, dataWord};
+ghost use Rattle.config.specs.ControlState.{withRegisters, withFlags, withCurrent};
+ghost use Rattle.config.specs.DataWords.{ended, onward, put, checked, crcWord, farWord, cmdWord, stepped, frameStored, fdriWord, mfwrStored, mfwrWord, idcodeWord, flrWord, dataWord};
 
 fn with_registers(registers: Registers, control: Control) -> Control
     ensures { λ r. ⌜ r ≡ withRegisters registers control ⌝ }
@@ -102,7 +102,7 @@ fn put(register: Register, word: u32, control: Control) -> Control
 }
 
 // A word to CRC; the auto CRC word too.
-pub(crate) fn crc_word(phase: Phase, control: Control, word: u32) -> Fed
+pub(crate) fn crc_word(phase: Phase, control: Control, word: u32) -> Transition
     ensures { λ r. ⌜ r ≡ crcWord phase control word ⌝ }
 {
     let mut registers = control.registers;
@@ -112,11 +112,11 @@ pub(crate) fn crc_word(phase: Phase, control: Control, word: u32) -> Fed
         return stopped(Stop::CrcMismatch, after);
     }
     let mut flags = control.flags;
-    flags.checked = true;
+    flags.check_passed = true;
     going(phase, with_flags(flags, after))
 }
 
-fn far_word(phase: Phase, control: Control, word: u32) -> Fed
+fn far_word(phase: Phase, control: Control, word: u32) -> Transition
     ensures { λ r. ⌜ r ≡ farWord phase control word ⌝ }
 {
     let current = named(control.device, word);
@@ -127,7 +127,7 @@ fn far_word(phase: Phase, control: Control, word: u32) -> Fed
     )
 }
 
-fn cmd_word(phase: Phase, control: Control, word: u32) -> Fed
+fn cmd_word(phase: Phase, control: Control, word: u32) -> Transition
     ensures { λ r. ⌜ r ≡ cmdWord phase control word ⌝ }
 {
     if command::LAST < word {
@@ -148,12 +148,12 @@ fn stepped(device: u32, frame: u32) -> Current
 }
 
 // The word that completes a frame which is not the packet's last.
-fn frame_stored(current: Current, left: u32, filled: u32, control: Control, word: u32) -> Fed
+fn frame_stored(current: Current, left: u32, filled: u32, control: Control, word: u32) -> Transition
     requires { ⌜ 1 < left ⌝ }
     ensures { λ r. ⌜ r ≡ frameStored current left filled control word ⌝ }
 {
     match current {
-        Current::Frame(n) => Fed {
+        Current::Frame(n) => Transition {
             phase: Phase::Data {
                 register: Register::Fdri,
                 left: left - 1,
@@ -173,13 +173,13 @@ fn frame_stored(current: Current, left: u32, filled: u32, control: Control, word
     }
 }
 
-fn fdri_word(left: u32, filled: u32, control: Control, word: u32) -> Fed
+fn fdri_word(left: u32, filled: u32, control: Control, word: u32) -> Transition
     ensures { λ r. ⌜ r ≡ fdriWord left filled control word ⌝ }
 {
     if left <= 1 {
         let mut flags = control.flags;
         flags.buffer_valid = true;
-        return Fed {
+        return Transition {
             phase: ended(Register::Fdri),
             control: with_flags(flags, put(Register::Fdri, word, control)),
             event: Event::Keep {
@@ -190,7 +190,7 @@ fn fdri_word(left: u32, filled: u32, control: Control, word: u32) -> Fed
     }
     let length = length_at(control.device);
     if (filled as u64) + 1 < length as u64 {
-        return Fed {
+        return Transition {
             phase: Phase::Data {
                 register: Register::Fdri,
                 left: left - 1,
@@ -208,11 +208,11 @@ fn fdri_word(left: u32, filled: u32, control: Control, word: u32) -> Fed
 }
 
 // The second word to MFWR.
-fn mfwr_stored(current: Current, control: Control, word: u32) -> Fed
+fn mfwr_stored(current: Current, control: Control, word: u32) -> Transition
     ensures { λ r. ⌜ r ≡ mfwrStored current control word ⌝ }
 {
     match current {
-        Current::Frame(n) => Fed {
+        Current::Frame(n) => Transition {
             phase: ended(Register::Mfwr),
             control: put(Register::Mfwr, word, control),
             event: Event::Store(n),
@@ -221,7 +221,7 @@ fn mfwr_stored(current: Current, control: Control, word: u32) -> Fed
     }
 }
 
-fn mfwr_word(left: u32, filled: u32, control: Control, word: u32) -> Fed
+fn mfwr_word(left: u32, filled: u32, control: Control, word: u32) -> Transition
     ensures { λ r. ⌜ r ≡ mfwrWord left filled control word ⌝ }
 {
     if left <= 1 {
@@ -238,7 +238,7 @@ fn mfwr_word(left: u32, filled: u32, control: Control, word: u32) -> Fed
     )
 }
 
-fn idcode_word(phase: Phase, control: Control, word: u32) -> Fed
+fn idcode_word(phase: Phase, control: Control, word: u32) -> Transition
     ensures { λ r. ⌜ r ≡ idcodeWord phase control word ⌝ }
 {
     if word != idcode_at(control.device) {
@@ -252,7 +252,7 @@ fn idcode_word(phase: Phase, control: Control, word: u32) -> Fed
     )
 }
 
-fn flr_word(phase: Phase, control: Control, word: u32) -> Fed
+fn flr_word(phase: Phase, control: Control, word: u32) -> Transition
     ensures { λ r. ⌜ r ≡ flrWord phase control word ⌝ }
 {
     let length = length_at(control.device);
@@ -270,7 +270,7 @@ pub(crate) fn data_word(
     filled: u32,
     control: Control,
     word: u32,
-) -> Fed
+) -> Transition
     ensures { λ r. ⌜ r ≡ dataWord register left filled control word ⌝ }
 {
     let next = onward(register, left, filled);

@@ -1,27 +1,27 @@
 // The figures of the record's part by its device number, 0 where the number names no part.
 use crate::Current;
-use parts::device::value_of;
 use parts::frame::NumberAnswer;
+use parts::table::value_of;
 ghost use mathlib.Core.Path.{_≡_};
-ghost use Rattle.parts.specs.Device.{idcodeAt, lengthAt, countAt};
-ghost use Rattle.config.specs.Part.{named};
+ghost use Rattle.parts.specs.Table.{idcodeAt, lengthAt, countAt};
+ghost use Rattle.config.specs.CurrentFrame.{named};
 
 pub(crate) fn idcode_at(device: u32) -> u32
     ensures { λ r. ⌜ r ≡ idcodeAt device ⌝ }
 {
-    value_of(parts::device::idcode(device))
+    value_of(parts::table::idcode(device))
 }
 
 pub(crate) fn length_at(device: u32) -> u32
     ensures { λ r. ⌜ r ≡ lengthAt device ⌝ }
 {
-    value_of(parts::device::frame_length(device))
+    value_of(parts::table::frame_length(device))
 }
 
 pub(crate) fn count_at(device: u32) -> u32
     ensures { λ r. ⌜ r ≡ countAt device ⌝ }
 {
-    value_of(parts::device::frame_count(device))
+    value_of(parts::table::frame_count(device))
 }
 
 // The frame that an address names.

@@ -1,30 +1,31 @@
 // Header words: parsed, then obeyed. The checks go 1, 3, 2, 6, 7.
-use crate::Bytes;
 use crate::Control;
 use crate::Event;
-use crate::Fed;
+use crate::Open;
 use crate::Packet;
+use crate::PartialWord;
 use crate::Phase;
+use crate::Transition;
 use crate::figures::length_at;
 use crate::stream::with_partial;
 use answers::Stop;
-use registers::Open;
 use registers::Register;
+use registers::RegisterAnswer;
 use registers::command::MFWR;
 use registers::command::WCFG;
 use registers::is_fdri;
 use registers::is_mfwr;
 use registers::register_at;
 ghost use mathlib.Core.Path.{_≡_};
-ghost use Rattle.config.specs.Control.{fed, stopped};
-ghost use Rattle.config.specs.Packets.{type1, type2, packet, ready, counted, begin, typeOneWrite, obeyed, headerWord};
+ghost use Rattle.config.specs.ControlState.{transition, stopped};
+ghost use Rattle.config.specs.PacketHeaders.{type1, type2, packet, ready, counted, begin, typeOneWrite, obeyed, headerWord};
 ghost use Rattle.config.specs.declared.Event.the-variants as Event;
 
 // The machine where nothing but the phase changes.
-pub(crate) fn going(phase: Phase, control: Control) -> Fed
-    ensures { λ r. ⌜ r ≡ fed phase control Event.Nothing ⌝ }
+pub(crate) fn going(phase: Phase, control: Control) -> Transition
+    ensures { λ r. ⌜ r ≡ transition phase control Event.Nothing ⌝ }
 {
-    Fed {
+    Transition {
         phase: phase,
         control: control,
         event: Event::Nothing,
@@ -32,12 +33,12 @@ pub(crate) fn going(phase: Phase, control: Control) -> Fed
 }
 
 // The bad word is dropped, and the partial word is emptied.
-pub(crate) fn stopped(stop: Stop, control: Control) -> Fed
+pub(crate) fn stopped(stop: Stop, control: Control) -> Transition
     ensures { λ r. ⌜ r ≡ stopped stop control ⌝ }
 {
-    Fed {
+    Transition {
         phase: Phase::Stopped(stop),
-        control: with_partial(Bytes::Zero, control),
+        control: with_partial(PartialWord::Zero, control),
         event: Event::Nothing,
     }
 }
@@ -134,7 +135,7 @@ fn counted(register: Register, length: u32, count: u32) -> bool
     true
 }
 
-fn begin(register: Register, count: u32, control: Control) -> Fed
+fn begin(register: Register, count: u32, control: Control) -> Transition
     ensures { λ r. ⌜ r ≡ begin register count control ⌝ }
 {
     if ready(register, control) {
@@ -153,12 +154,12 @@ fn begin(register: Register, count: u32, control: Control) -> Fed
     stopped(Stop::NotReady, control)
 }
 
-fn type_one_write(opened: Open, count: u32, control: Control) -> Fed
-    ensures { λ r. ⌜ r ≡ typeOneWrite opened count control ⌝ }
+fn type_one_write(found: RegisterAnswer, count: u32, control: Control) -> Transition
+    ensures { λ r. ⌜ r ≡ typeOneWrite found count control ⌝ }
 {
-    match opened {
-        Open::Closed => stopped(Stop::BadRegister, control),
-        Open::After(register) => {
+    match found {
+        RegisterAnswer::NotWritable => stopped(Stop::BadRegister, control),
+        RegisterAnswer::Writable(register) => {
             if count == 0 {
                 return going(Phase::Header(Open::After(register)), control);
             }
@@ -167,7 +168,7 @@ fn type_one_write(opened: Open, count: u32, control: Control) -> Fed
     }
 }
 
-fn obey(packet: Packet, control: Control) -> Fed
+fn obey(packet: Packet, control: Control) -> Transition
     ensures { λ r. ⌜ r ≡ obeyed packet control ⌝ }
 {
     match packet {
@@ -184,7 +185,7 @@ fn obey(packet: Packet, control: Control) -> Fed
     }
 }
 
-pub(crate) fn header_word(opened: Open, control: Control, word: u32) -> Fed
+pub(crate) fn header_word(opened: Open, control: Control, word: u32) -> Transition
     ensures { λ r. ⌜ r ≡ headerWord opened control word ⌝ }
 {
     obey(packet(opened, word), control)

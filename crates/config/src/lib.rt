@@ -2,11 +2,10 @@
 // It holds no frame words and no memory; the loader applies the events.
 
 use answers::Stop;
-use registers::Open;
 use registers::Register;
 
 // Zero to three bytes: the sync window while hunting, the partial word after it.
-pub enum Bytes {
+pub enum PartialWord {
     Zero,
     One(u8),
     Two(u8, u8),
@@ -23,9 +22,15 @@ pub enum Packet {
     Bad,
 }
 
+// The register that a type 2 header would use, if the word before was a type 1 write of count 0.
+pub enum Open {
+    Closed,
+    After(Register),
+}
+
 // The phases, each with what it must know. filled counts the words of the frame that an FDRI packet has filled.
 pub enum Phase {
-    Hunting(Bytes),
+    Hunting(PartialWord),
     Header(Open),
     Data {
         register: Register,
@@ -57,14 +62,14 @@ pub struct Registers {
     pub idcode: u32,
 }
 
-// checked: a check has passed since START or power-on. buffer_valid: a frame is in the frame buffer.
+// check_passed: a check has passed since START or power-on. buffer_valid: a frame is in the frame buffer.
 pub struct Flags {
     pub idcode_ok: bool,
     pub flr_ok: bool,
     pub buffer_valid: bool,
     pub ghigh: bool,
     pub start_pending: bool,
-    pub checked: bool,
+    pub check_passed: bool,
     pub started: bool,
 }
 
@@ -73,7 +78,7 @@ pub struct Control {
     pub registers: Registers,
     pub flags: Flags,
     pub current: Current,
-    pub partial: Bytes,
+    pub partial: PartialWord,
 }
 
 // What a word asks of the frame buffer and the memory: keep the word at a place of the buffer, store the buffer at a frame.
@@ -85,7 +90,7 @@ pub enum Event {
 }
 
 // The machine after a word or a byte, and the event.
-pub struct Fed {
+pub struct Transition {
     pub phase: Phase,
     pub control: Control,
     pub event: Event,
@@ -99,15 +104,15 @@ mod data; // data.rt: a data word to each register
 mod stream; // stream.rt: the hunt, and words from bytes
 
 ghost use mathlib.Core.Path.{_≡_};
-ghost use Rattle.config.specs.Words.{word};
-ghost use Rattle.config.specs.Bytes.{byte};
+ghost use Rattle.config.specs.DataWords.{word};
+ghost use Rattle.config.specs.StreamBytes.{byte};
 
 // A whole word in a phase that takes words.
-pub fn word(phase: Phase, control: Control, w: u32) -> Fed
+pub fn word(phase: Phase, control: Control, w: u32) -> Transition
     ensures { λ r. ⌜ r ≡ word phase control w ⌝ }
 {
     match phase {
-        Phase::Hunting(_) => Fed {
+        Phase::Hunting(_) => Transition {
             phase: phase,
             control: control,
             event: Event::Nothing,
@@ -119,7 +124,7 @@ pub fn word(phase: Phase, control: Control, w: u32) -> Fed
             filled,
         } => data::data_word(register, left, filled, control, w),
         Phase::Crc => data::crc_word(Phase::Header(Open::Closed), control, w),
-        Phase::Stopped(_) => Fed {
+        Phase::Stopped(_) => Transition {
             phase: phase,
             control: control,
             event: Event::Nothing,
@@ -128,7 +133,7 @@ pub fn word(phase: Phase, control: Control, w: u32) -> Fed
 }
 
 // One byte. A stopped machine takes none: it is handed back as it is.
-pub fn byte(phase: Phase, control: Control, x: u8) -> Fed
+pub fn byte(phase: Phase, control: Control, x: u8) -> Transition
     ensures { λ r. ⌜ r ≡ byte phase control x ⌝ }
 {
     let partial = control.partial;
@@ -136,7 +141,7 @@ pub fn byte(phase: Phase, control: Control, x: u8) -> Fed
         Phase::Hunting(window) => {
             header::going(
                 stream::hunted(window, x),
-                stream::with_partial(Bytes::Zero, control),
+                stream::with_partial(PartialWord::Zero, control),
             )
         }
         Phase::Header(_) => stream::gathered(partial, phase, control, x),

@@ -1,14 +1,14 @@
 // Bytes: the hunt for the sync word, and words from four bytes, high byte first.
-use crate::Bytes;
 use crate::Control;
-use crate::Fed;
+use crate::Open;
+use crate::PartialWord;
 use crate::Phase;
+use crate::Transition;
 use crate::header::going;
 use crate::word;
-use registers::Open;
 ghost use mathlib.Core.Path.{_≡_};
-ghost use Rattle.config.specs.Control.{withPartial};
-ghost use Rattle.config.specs.Bytes.{isSync, hunted, wordOf, gathered};
+ghost use Rattle.config.specs.ControlState.{withPartial};
+ghost use Rattle.config.specs.StreamBytes.{isSync, hunted, wordOf, gathered};
 
 fn is_sync(a: u8, b: u8, c: u8, d: u8) -> bool
     ensures { λ r. ⌜ r ≡ isSync a b c d ⌝ }
@@ -26,18 +26,18 @@ fn is_sync(a: u8, b: u8, c: u8, d: u8) -> bool
 }
 
 // The phase after a byte of the hunt.
-pub(crate) fn hunted(window: Bytes, x: u8) -> Phase
+pub(crate) fn hunted(window: PartialWord, x: u8) -> Phase
     ensures { λ r. ⌜ r ≡ hunted window x ⌝ }
 {
     match window {
-        Bytes::Zero => Phase::Hunting(Bytes::One(x)),
-        Bytes::One(a) => Phase::Hunting(Bytes::Two(a, x)),
-        Bytes::Two(a, b) => Phase::Hunting(Bytes::Three(a, b, x)),
-        Bytes::Three(a, b, c) => {
+        PartialWord::Zero => Phase::Hunting(PartialWord::One(x)),
+        PartialWord::One(a) => Phase::Hunting(PartialWord::Two(a, x)),
+        PartialWord::Two(a, b) => Phase::Hunting(PartialWord::Three(a, b, x)),
+        PartialWord::Three(a, b, c) => {
             if is_sync(a, b, c, x) {
                 return Phase::Header(Open::Closed);
             }
-            Phase::Hunting(Bytes::Three(b, c, x))
+            Phase::Hunting(PartialWord::Three(b, c, x))
         }
     }
 }
@@ -49,7 +49,7 @@ pub(crate) fn word_of(a: u8, b: u8, c: u8, d: u8) -> u32
     (a as u32) * 16777216 + (b as u32) * 65536 + (c as u32) * 256 + d as u32
 }
 
-pub(crate) fn with_partial(partial: Bytes, control: Control) -> Control
+pub(crate) fn with_partial(partial: PartialWord, control: Control) -> Control
     ensures { λ r. ⌜ r ≡ withPartial partial control ⌝ }
 {
     let registers = control.registers;
@@ -65,16 +65,16 @@ pub(crate) fn with_partial(partial: Bytes, control: Control) -> Control
 }
 
 // A byte after sync: one more of the partial word, or the word that it completes.
-pub(crate) fn gathered(partial: Bytes, phase: Phase, control: Control, x: u8) -> Fed
+pub(crate) fn gathered(partial: PartialWord, phase: Phase, control: Control, x: u8) -> Transition
     ensures { λ r. ⌜ r ≡ gathered partial phase control x ⌝ }
 {
     match partial {
-        Bytes::Zero => going(phase, with_partial(Bytes::One(x), control)),
-        Bytes::One(a) => going(phase, with_partial(Bytes::Two(a, x), control)),
-        Bytes::Two(a, b) => going(phase, with_partial(Bytes::Three(a, b, x), control)),
-        Bytes::Three(a, b, c) => word(
+        PartialWord::Zero => going(phase, with_partial(PartialWord::One(x), control)),
+        PartialWord::One(a) => going(phase, with_partial(PartialWord::Two(a, x), control)),
+        PartialWord::Two(a, b) => going(phase, with_partial(PartialWord::Three(a, b, x), control)),
+        PartialWord::Three(a, b, c) => word(
             phase,
-            with_partial(Bytes::Zero, control),
+            with_partial(PartialWord::Zero, control),
             word_of(a, b, c, x),
         ),
     }

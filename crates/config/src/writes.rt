@@ -4,7 +4,7 @@ use registers::Register;
 use registers::address_of;
 use registers::is_lout;
 ghost use mathlib.Core.Path.{_≡_};
-ghost use Rattle.config.specs.Registers.{masked, hold, written};
+ghost use Rattle.config.specs.RegisterWrites.{masked, hold, written};
 
 // The bits of CTL that MASK lets through.
 fn masked(mask: u32, ctl: u32, word: u32) -> u32

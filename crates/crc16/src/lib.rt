@@ -1,8 +1,8 @@
 // The CRC register of the configuration logic: feed a data word, and the word that passes the check.
 ghost use mathlib.Core.Path.{_≡_};
 ghost use Prim.Native.Nat.{_<_};
-ghost use Rattle.crc16.specs.Register.{feed, checkWord};
-ghost use Rattle.crc16.specs.Nibbles.{entries, lookedUp, feedWith};
+ghost use Rattle.crc16.specs.CrcRegister.{feed, checkWord};
+ghost use Rattle.crc16.specs.NibbleTable.{entries, lookedUp, feedWith};
 
 mod nibbles; // nibbles.rt: what each nibble adds
 

@@ -1,17 +1,1 @@
--- The example of 01's layouts that is marked P, as a closed statement.
--- By computation.
-use mathlib.Core.Path.{_≡_, refl}
-use mathlib.Core.List.{[], _∷_}
-use Rattle.parts.specs.Device.{parts, partOf, figureOf, valueOf, frameLength, frameCount}
-use Rattle.answers.specs.Refusals.{causeNumber, verdictNumber, verdictValue}
-use Rattle.numbers.specs.Number.{lastGroup, lowGroup, groups}
-use Rattle.layout.specs.Range.{range, owns, ownsRun}
-use Rattle.layout.specs.Reader.{judgedWrite, writeCount, writeFirst, stepKind, andStep, stepsAt}
-use Rattle.layout.specs.Layout.{ended, countRead, deviceRead, editionRead, verdictOf, checkFor, check}
-
--- 01, "Worked by hand": frame 256 of device 0 is outside the 256 frames from 0 on; refused with 35 at the first frame, offset 4
-pub frame-outside :
-    (let v = check 0 (range 0 256) (1 ∷ 0 ∷ 1 ∷ 1 ∷ 128 ∷ 2 ∷ 1 ∷ []) in verdictNumber v ∷ verdictValue v ∷ [])
-    ≡ 35 ∷ 4 ∷ []
-unfolding parts partOf figureOf valueOf frameLength frameCount causeNumber verdictNumber verdictValue lastGroup lowGroup groups owns ownsRun judgedWrite writeCount writeFirst stepKind andStep stepsAt ended countRead deviceRead editionRead verdictOf checkFor
-frame-outside = refl
+pub mod OutsideRange  -- 01's worked layout that names a frame outside the range

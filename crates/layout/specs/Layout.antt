@@ -6,24 +6,24 @@ use mathlib.Core.List.{List, [], _∷_}
 use mathlib.Core.Bool.{Bool, cond}
 use lib.Dec.{eqb, ltb}
 use lib.ListN.{length}
-use Rattle.parts.specs.Device.{figure, frameCount, lengthAt}
-use Rattle.parts.specs.declared.device.Figure.{Figure}
-use Rattle.parts.specs.declared.device.Figure.the-variants as Figure
+use Rattle.parts.specs.Table.{figure, frameCount, lengthAt}
+use Rattle.parts.specs.declared.table.Figure.{Figure}
+use Rattle.parts.specs.declared.table.Figure.the-variants as Figure
 use Rattle.answers.specs.declared.layout.Cause.the-variants as Cause
 use Rattle.answers.specs.declared.layout.Verdict.{Verdict}
 use Rattle.answers.specs.declared.layout.Verdict.the-variants as Verdict
 use Rattle.numbers.specs.Number.{numberAt}
 use Rattle.numbers.specs.declared.Number.{Number}
 use Rattle.numbers.specs.declared.Number.the-variants as Number
-use Rattle.layout.specs.Range.{owns}
+use Rattle.layout.specs.Ownership.{owns}
 use Rattle.layout.specs.Step.{Step, FrameWrite, MultiFrameWrite, Reading, Read, Refused}
-use Rattle.layout.specs.Reader.{stepsAt}
+use Rattle.layout.specs.StepReading.{stepsAt}
 use Rattle.layout.specs.declared.FrameRange.{FrameRange}
 
 -- "for extra bytes, the first of them"
-unfoldable pub ended : List ℕ → Reading (List Step) → Reading (List Step)
-ended b (Reading.Read ss next) = cond (ltb next (length b)) (Refused Cause.Trailing next) (Read ss next)
-ended b (Reading.Refused c at) = Refused c at
+unfoldable pub endRead : List ℕ → Reading (List Step) → Reading (List Step)
+endRead b (Reading.Read ss next) = cond (ltb next (length b)) (Refused Cause.Trailing next) (Read ss next)
+endRead b (Reading.Refused c at) = Refused c at
 
 -- "step count (at most 4096)"
 abbrev pub mostSteps : ℕ
@@ -31,7 +31,7 @@ mostSteps = 4096
 
 module _ (l f : ℕ) (own : ℕ → Bool) (b : List ℕ) where
   unfoldable pub countRead : ℕ → Number → Reading (List Step)
-  countRead at (Number.Value n next) = cond (ltb mostSteps n) (Refused Cause.TooManySteps at) (ended b (stepsAt l f own b n next))
+  countRead at (Number.Value n next) = cond (ltb mostSteps n) (Refused Cause.TooManySteps at) (endRead b (stepsAt l f own b n next))
   countRead at (Number.Refused c) = Refused c at
 
   -- the layout's device is d

@@ -4,7 +4,7 @@ use Prim.Native.Nat.{ℕ}
 use mathlib.Core.List.{List}
 use denote.Ref.{RefT, now}
 use Rattle.answers.specs.declared.layout.Verdict.{Verdict}
-use Rattle.layout.specs.Reader.{deskStep}
+use Rattle.layout.specs.StepReading.{deskStep}
 use Rattle.layout.specs.Layout.{checkAt}
 use Rattle.layout.specs.declared.FrameRange.{FrameRange}
 use Rattle.layout.specs.declared.reader.LayoutReader.{LayoutReader}

@@ -6,18 +6,18 @@ use answers::layout::Cause;
 use answers::layout::Verdict;
 use numbers::Number;
 use numbers::read_number;
-use parts::device::Figure;
-use parts::device::frame_count;
-use parts::device::frame_length;
-use parts::device::value_of;
+use parts::table::Figure;
+use parts::table::frame_count;
+use parts::table::frame_length;
+use parts::table::value_of;
 ghost use mathlib.Core.Path.{_≡_};
 ghost use Prim.Native.Nat.{_≤_};
-ghost use Rattle.parts.specs.Device.{lengthAt, countAt};
+ghost use Rattle.parts.specs.Table.{lengthAt, countAt};
 ghost use Rattle.answers.specs.declared.layout.Verdict.the-variants as Verdict;
 ghost use Rattle.numbers.specs.Number.{numberAt};
-ghost use Rattle.layout.specs.Range.{owns};
-ghost use Rattle.layout.specs.Reader.{stepsAt};
-ghost use Rattle.layout.specs.Layout.{mostSteps, ended, countRead, deviceRead, layoutAt, verdictOf, checkAt};
+ghost use Rattle.layout.specs.Ownership.{owns};
+ghost use Rattle.layout.specs.StepReading.{stepsAt};
+ghost use Rattle.layout.specs.Layout.{mostSteps, endRead, countRead, deviceRead, layoutAt, verdictOf, checkAt};
 
 // The most steps that a layout may have.
 const MOST_STEPS: u32 = 4096;
@@ -34,7 +34,7 @@ fn refused(cause: Cause, at: usize) -> Verdict
 // The list of steps, and the end.
 fn layout_steps(device: u32, range: FrameRange, layout: &[u8], count: u32, start: usize) -> Verdict
     requires { ⌜ count ≤ mostSteps ⌝ }
-    ensures { λ r. ⌜ r ≡ verdictOf (lengthAt device) (ended (now (layout .entry)) (stepsAt (lengthAt device) (countAt device) (owns range) (now (layout .entry)) count start)) ⌝ }
+    ensures { λ r. ⌜ r ≡ verdictOf (lengthAt device) (endRead (now (layout .entry)) (stepsAt (lengthAt device) (countAt device) (owns range) (now (layout .entry)) count start)) ⌝ }
 {
     let length = value_of(frame_length(device)) as u64;
     let mut at: usize = start;

@@ -1,7 +1,7 @@
 // Which frames are owned. Every check of a frame goes through owns.
 use crate::FrameRange;
 ghost use mathlib.Core.Path.{_≡_};
-ghost use Rattle.layout.specs.Range.{owns, ownsRun};
+ghost use Rattle.layout.specs.Ownership.{owns, ownsRun};
 
 // The range owns a frame.
 pub(crate) fn owns(range: FrameRange, frame: u64) -> bool

@@ -7,17 +7,17 @@ use answers::layout::Cause;
 use answers::layout::cause_number;
 use numbers::Number;
 use numbers::read_number;
-use parts::device::frame_count;
-use parts::device::frame_length;
-use parts::device::value_of;
+use parts::table::frame_count;
+use parts::table::frame_length;
+use parts::table::value_of;
 ghost use mathlib.Core.Path.{_≡_};
 ghost use Prim.Native.Nat.{_-_, _≤_};
 ghost use lib.ListN.{length};
-ghost use Rattle.parts.specs.Device.{lengthAt, countAt};
+ghost use Rattle.parts.specs.Table.{lengthAt, countAt};
 ghost use Rattle.numbers.specs.Number.{numberAt};
-ghost use Rattle.layout.specs.Range.{owns};
+ghost use Rattle.layout.specs.Ownership.{owns};
 ghost use Rattle.layout.specs.declared.step.StepAt.the-variants as StepAt;
-ghost use Rattle.layout.specs.Reader.{judgedWrite, writeCount, writeFirst, judgedMulti, multiCount, deskStep, stepRefusal, stepOffset};
+ghost use Rattle.layout.specs.StepReading.{judgedWrite, writeCount, writeFirst, judgedMulti, multiCount, deskStep, stepRefusal, stepOffset};
 
 // A step that was read: where its frames and its targets lie, and the offset after it.
 pub enum StepAt {

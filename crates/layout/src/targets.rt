@@ -5,15 +5,15 @@ use crate::step::StepAt;
 use answers::layout::Cause;
 use numbers::Number;
 use numbers::read_number;
-use parts::device::frame_count;
-use parts::device::frame_length;
-use parts::device::value_of;
+use parts::table::frame_count;
+use parts::table::frame_length;
+use parts::table::value_of;
 ghost use mathlib.Core.Path.{_≡_};
 ghost use Prim.Native.Nat.{_+_, _*_, _≤_};
 ghost use lib.ListN.{length};
-ghost use Rattle.parts.specs.Device.{lengthAt, countAt};
-ghost use Rattle.layout.specs.Range.{owns};
-ghost use Rattle.layout.specs.Reader.{judgedTarget, targetsAt, targetsRead};
+ghost use Rattle.parts.specs.Table.{lengthAt, countAt};
+ghost use Rattle.layout.specs.Ownership.{owns};
+ghost use Rattle.layout.specs.StepReading.{judgedTarget, targetsAt, targetsRead};
 
 // A target that was read, judged: low is the least that rises.
 fn judged_target(frames: u32, range: FrameRange, low: u64, target: Number) -> Number

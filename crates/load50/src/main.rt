@@ -1,17 +1,17 @@
 // Loads standard input into a freshly powered XC3S50 and prints what came of it, in document 01's four lines.
 use answers::Answer;
 use config::Phase;
-use device::Device;
 use libc::STDERR_FILENO;
 use libc::STDIN_FILENO;
 use libc::STDOUT_FILENO;
+use record::Record;
 
 // How many pieces are read at most: far beyond any stream, since a loop must end.
 const PIECES: u64 = 4294967296;
 
 // The record after the pieces read so far. failed: a read failed, and the input may go on.
 struct Session {
-    device: Device,
+    record: Record,
     answer: Answer,
     taken: u64,
     failed: bool,
@@ -43,15 +43,15 @@ fn print_phase(phase: Phase) {
 
 fn print_verdict(session: Session) {
     let answer = session.answer;
-    let device = session.device;
-    let phase = device.phase;
+    let record = session.record;
+    let phase = record.phase;
     text(b"stop ");
     number(answers::answer_number(answer) as u64);
     text(b"taken ");
     number(session.taken);
     print_phase(phase);
     text(b"started ");
-    if device.control.flags.started {
+    if record.control.flags.started {
         text(b"yes\n");
     } else {
         text(b"no\n");
@@ -59,8 +59,8 @@ fn print_verdict(session: Session) {
 }
 
 // Reads pieces up to the end of the input, a stop or a failed read.
-fn load_input(start: Device, memory: &mut [u8]) -> Session {
-    let mut device = start;
+fn load_input(start: Record, memory: &mut [u8]) -> Session {
+    let mut record = start;
     let mut taken: u64 = 0;
     let mut buffer = io::large_buffer();
     let mut pieces = PIECES;
@@ -68,30 +68,30 @@ fn load_input(start: Device, memory: &mut [u8]) -> Session {
         let got = libc::read(STDIN_FILENO, &mut buffer);
         if got <= 0 {
             return Session {
-                device: device,
+                record: record,
                 answer: Answer::Done,
                 taken: taken,
                 failed: got < 0,
             };
         }
         let n = io::count(got, &buffer);
-        let loaded = loader::load(device, memory, &buffer[..n]);
-        let next = loaded.device;
+        let loaded = loader::load(record, memory, &buffer[..n]);
+        let next = loaded.record;
         let answer = loaded.answer;
         taken += loaded.taken;
         if answers::answer_number(answer) != 0 {
             return Session {
-                device: next,
+                record: next,
                 answer: answer,
                 taken: taken,
                 failed: false,
             };
         }
-        device = next;
+        record = next;
         pieces -= 1;
     }
     Session {
-        device: device,
+        record: record,
         answer: Answer::Done,
         taken: taken,
         failed: false,
@@ -100,8 +100,8 @@ fn load_input(start: Device, memory: &mut [u8]) -> Session {
 
 fn main() {
     let mut memory = [0u8; 54464];
-    let on = device::power_on(0, &mut memory);
-    let start = on.device;
+    let on = record::power_on(0, &mut memory);
+    let start = on.record;
     let session = load_input(start, &mut memory);
     if session.failed {
         io::write_all(STDERR_FILENO, b"load50: standard input could not be read\n");

@@ -5,13 +5,13 @@ use mathlib.Core.List.{List}
 use mathlib.Core.Bool.{cond}
 use lib.Dec.{eqb}
 use lib.ListN.{length}
-use Rattle.parts.specs.Device.{memoryAt}
-use Rattle.device.specs.Consistent.{consistent}
-use Rattle.device.specs.PowerOn.{Outcome}
+use Rattle.parts.specs.Table.{memoryAt}
+use Rattle.record.specs.Consistency.{consistent}
+use Rattle.record.specs.PowerOn.{Outcome}
 use Rattle.config.specs.declared.Phase.{Phase}
 use Rattle.config.specs.declared.Phase.the-variants as Phase
 use Rattle.loader.specs.Run.{Ran, run}
-use Rattle.device.specs.declared.Device.{Device}
+use Rattle.record.specs.declared.Record.{Record}
 use Rattle.answers.specs.declared.Answer.{Answer}
 use Rattle.answers.specs.declared.Answer.the-variants as Answer
 
@@ -24,14 +24,14 @@ answerOf Phase.Crc = Answer.Done
 answerOf (Phase.Stopped s) = Answer.Stopped s
 
 -- 01: refusals "change no memory and hand the same record back"; "taken is 0"
-abbrev pub refused : Answer → Device → List ℕ → Outcome
-refused a d m = record { device = d; memory = m; answer = a; taken = 0 }
+abbrev pub refused : Answer → Record → List ℕ → Outcome
+refused a d m = record { «record» = d; memory = m; answer = a; taken = 0 }
 
 abbrev pub finished : Ran → Outcome
-finished r = record { device = r .device; memory = r .memory; answer = answerOf (r .device .phase); taken = r .taken }
+finished r = record { «record» = r .«record»; memory = r .memory; answer = answerOf (r .«record» .phase); taken = r .taken }
 
 -- 01: 22, then 23, then the bytes
-unfoldable pub load : Device → List ℕ → List ℕ → Outcome
+unfoldable pub load : Record → List ℕ → List ℕ → Outcome
 load d m bytes =
     cond (consistent (d .phase) (d .control))
     (cond (eqb (length m) (memoryAt (d .control .device))) (finished (run d m bytes)) (refused Answer.WrongMemory d m))

@@ -4,13 +4,13 @@
 use Prim.Native.Nat.{ℕ, _+_}
 use mathlib.Core.List.{List, [], _∷_}
 use mathlib.Core.Bool.{Bool, true, false, cond}
-use Rattle.parts.specs.Device.{lengthAt}
-use Rattle.config.specs.Bytes.{byte}
+use Rattle.parts.specs.Table.{lengthAt}
+use Rattle.config.specs.StreamBytes.{byte}
 use Rattle.config.specs.declared.Phase.{Phase}
 use Rattle.config.specs.declared.Phase.the-variants as Phase
-use Rattle.config.specs.declared.Fed.{Fed}
-use Rattle.loader.specs.Memory.{buffered, stored}
-use Rattle.device.specs.declared.Device.{Device}
+use Rattle.config.specs.declared.Transition.{Transition}
+use Rattle.loader.specs.EventEffects.{buffered, stored}
+use Rattle.record.specs.declared.Record.{Record}
 
 unfoldable pub isStopped : Phase → Bool
 isStopped (Phase.Hunting b) = false
@@ -20,29 +20,29 @@ isStopped Phase.Crc = false
 isStopped (Phase.Stopped s) = true
 
 -- what the control machine makes of a byte
-abbrev pub fedByte : Device → ℕ → Fed
-fedByte d x = byte (d .phase) (d .control) x
+abbrev pub byteTransition : Record → ℕ → Transition
+byteTransition d x = byte (d .phase) (d .control) x
 
 -- the record after what the control machine made of a word or a byte
-abbrev pub deviceAfter : Fed → Device → Device
-deviceAfter f d = record { phase = f .phase; control = f .control; frame = buffered (f .event) (d .frame) }
+abbrev pub recordAfter : Transition → Record → Record
+recordAfter f d = record { phase = f .phase; control = f .control; frame = buffered (f .event) (d .frame) }
 
 -- the memory after it
-abbrev pub memoryAfter : Fed → Device → List ℕ → List ℕ
+abbrev pub memoryAfter : Transition → Record → List ℕ → List ℕ
 memoryAfter f d m = stored (lengthAt (d .control .device)) (f .event) (d .frame) m
 
 pub record Ran : Type 0 where
-  pub device : Device
+  pub «record» : Record
   pub memory : List ℕ
   pub taken : ℕ
 
-abbrev pub ran : Device → List ℕ → ℕ → Ran
-ran d m n = record { device = d; memory = m; taken = n }
+abbrev pub ran : Record → List ℕ → ℕ → Ran
+ran d m n = record { «record» = d; memory = m; taken = n }
 
 -- with n bytes taken before
 abbrev pub after : ℕ → Ran → Ran
-after n r = ran (r .device) (r .memory) (n + r .taken)
+after n r = ran (r .«record») (r .memory) (n + r .taken)
 
-unfoldable pub run : Device → List ℕ → List ℕ → Ran
+unfoldable pub run : Record → List ℕ → List ℕ → Ran
 run d m [] = ran d m 0
-run d m (x ∷ xs) = cond (isStopped (d .phase)) (ran d m 0) (after 1 (run (deviceAfter (fedByte d x) d) (memoryAfter (fedByte d x) d m) xs))
+run d m (x ∷ xs) = cond (isStopped (d .phase)) (ran d m 0) (after 1 (run (recordAfter (byteTransition d x) d) (memoryAfter (byteTransition d x) d m) xs))

@@ -1,10 +1,10 @@
 // Words of an FDRI packet that only fill the frame buffer: a loop that copies no record.
-use device::FrameBuffer;
+use record::FrameBuffer;
 ghost use mathlib.Core.Path.{_≡_};
 ghost use Prim.Native.Nat.{_+_, _*_, _≤_};
 ghost use lib.ListN.{length};
-ghost use Rattle.crc16.specs.Register.{fedWords};
-ghost use Rattle.loader.specs.Fill.{wordAt, wordsAt, lastOf, keptAll};
+ghost use Rattle.crc16.specs.CrcRegister.{fedWords};
+ghost use Rattle.loader.specs.Inner.FillWords.{wordAt, wordsAt, lastOf, keptAll};
 
 // The CRC after the words, and the last of them.
 pub struct Filled {

@@ -6,21 +6,21 @@ mod turn; // turn.rt: the next bytes of a piece
 use answers::Answer;
 use config::Control;
 use config::Phase;
-use device::Device;
+use record::Record;
 ghost use mathlib.Core.Path.{_≡_};
 ghost use Rattle.loader.specs.Run.{isStopped, run};
 ghost use Rattle.loader.specs.Load.{answerOf, load};
 
 // The record after a load, the answer, and the bytes taken from this piece.
 pub struct Loaded {
-    pub device: Device,
+    pub record: Record,
     pub answer: Answer,
     pub taken: u64,
 }
 
 // The record after the bytes of a piece.
 struct Progress {
-    device: Device,
+    record: Record,
     taken: u64,
 }
 
@@ -57,20 +57,20 @@ fn is_stopped(phase: Phase) -> bool
 }
 
 // The bytes of a piece up to its end or a stop.
-fn run(d: Device, memory: &mut [u8], bytes: &[u8]) -> Progress
-    ensures { λ r. ⌜ r .device ≡ run d (now (memory .entry)) (now (bytes .entry)) .device ⌝ }
+fn run(d: Record, memory: &mut [u8], bytes: &[u8]) -> Progress
+    ensures { λ r. ⌜ r .«record» ≡ run d (now (memory .entry)) (now (bytes .entry)) .«record» ⌝ }
     ensures { λ r. ⌜ r .taken ≡ run d (now (memory .entry)) (now (bytes .entry)) .taken ⌝ }
     ensures { λ _. ⌜ now (memory .exit) ≡ run d (now (memory .entry)) (now (bytes .entry)) .memory ⌝ }
 {
     let mut phase = d.phase;
     let mut control = d.control;
     let mut frame = d.frame;
-    let length = parts::device::value_of(parts::device::frame_length(control.device));
+    let length = parts::table::value_of(parts::table::frame_length(control.device));
     let mut i: usize = 0;
     while i < bytes.len() {
         if is_stopped(phase) {
             return Progress {
-                device: Device {
+                record: Record {
                     phase: phase,
                     control: control,
                     frame: frame,
@@ -86,7 +86,7 @@ fn run(d: Device, memory: &mut [u8], bytes: &[u8]) -> Progress
         i += t.taken;
     }
     Progress {
-        device: Device {
+        record: Record {
             phase: phase,
             control: control,
             frame: frame,
@@ -96,33 +96,33 @@ fn run(d: Device, memory: &mut [u8], bytes: &[u8]) -> Progress
 }
 
 // Load: 22, then 23, then the stop or done, with the bytes taken from this piece.
-pub fn load(d: Device, memory: &mut [u8], bytes: &[u8]) -> Loaded
-    ensures { λ r. ⌜ r .device ≡ load d (now (memory .entry)) (now (bytes .entry)) .device ⌝ }
+pub fn load(d: Record, memory: &mut [u8], bytes: &[u8]) -> Loaded
+    ensures { λ r. ⌜ r .«record» ≡ load d (now (memory .entry)) (now (bytes .entry)) .«record» ⌝ }
     ensures { λ r. ⌜ r .answer ≡ load d (now (memory .entry)) (now (bytes .entry)) .answer ⌝ }
     ensures { λ r. ⌜ r .taken ≡ load d (now (memory .entry)) (now (bytes .entry)) .taken ⌝ }
     ensures { λ _. ⌜ now (memory .exit) ≡ load d (now (memory .entry)) (now (bytes .entry)) .memory ⌝ }
 {
     let control = d.control;
-    if !device::consistent(d) {
+    if !record::consistent(d) {
         return Loaded {
-            device: d,
+            record: d,
             answer: Answer::Inconsistent,
             taken: 0,
         };
     }
-    let wanted = parts::device::value_of(parts::device::memory_length(control.device));
+    let wanted = parts::table::value_of(parts::table::memory_length(control.device));
     if memory.len() != wanted as usize {
         return Loaded {
-            device: d,
+            record: d,
             answer: Answer::WrongMemory,
             taken: 0,
         };
     }
     let progress = run(d, memory, bytes);
-    let device = progress.device;
-    let last = device.phase;
+    let record = progress.record;
+    let last = record.phase;
     Loaded {
-        device: device,
+        record: record,
         answer: answer_of(last),
         taken: progress.taken,
     }

@@ -1,12 +1,12 @@
 // The frame buffer and the memory, and what an event does to each.
 use config::Event;
-use device::FrameBuffer;
+use record::FrameBuffer;
 ghost use mathlib.Core.Path.{_≡_};
 ghost use Prim.Native.Nat.{_+_, _*_, _≤_};
 ghost use lib.ListN.{length, take, set};
 ghost use lib.Seq.{sets};
-ghost use Rattle.parts.specs.Memory.{bytesOf};
-ghost use Rattle.loader.specs.Memory.{storeWithin, buffered, stored};
+ghost use Rattle.parts.specs.FrameMemory.{bytesOf};
+ghost use Rattle.loader.specs.EventEffects.{storeWithin, buffered, stored};
 
 // States that a buffer passed by value has 213 words, which its type tells here; does nothing.
 fn sized(frame: FrameBuffer)

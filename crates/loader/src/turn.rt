@@ -2,26 +2,26 @@
 use crate::fill::fill;
 use crate::fill::word_at;
 use crate::store::apply;
-use config::Bytes;
 use config::Control;
-use config::Fed;
+use config::PartialWord;
 use config::Phase;
-use device::FrameBuffer;
+use config::Transition;
+use record::FrameBuffer;
 use registers::Register;
 ghost use mathlib.Core.Path.{_≡_};
 ghost use mathlib.Core.Bool.{true, false};
 ghost use mathlib.Core.List.{List};
 ghost use Prim.Native.Nat.{ℕ, _+_, _-_, _*_, _≤_, _<_};
 ghost use lib.ListN.{length};
-ghost use Rattle.parts.specs.Device.{lengthAt};
+ghost use Rattle.parts.specs.Table.{lengthAt};
 ghost use Rattle.registers.specs.declared.Register.the-variants as Register;
-ghost use Rattle.config.specs.declared.Bytes.the-variants as Bytes;
+ghost use Rattle.config.specs.declared.PartialWord.the-variants as PartialWord;
 ghost use Rattle.config.specs.declared.Phase.the-variants as Phase;
-ghost use Rattle.loader.specs.Memory.{buffered, stored};
+ghost use Rattle.loader.specs.EventEffects.{buffered, stored};
 ghost use Rattle.loader.specs.Run.{isStopped};
-ghost use Rattle.loader.specs.Words.{takesWords};
-ghost use Rattle.loader.specs.Fill.{device};
-ghost use Rattle.loader.specs.Turn.{Turn};
+ghost use Rattle.loader.specs.Laws.WordRun.{takesWords};
+ghost use Rattle.loader.specs.Inner.FillWords.{recordOf};
+ghost use Rattle.loader.specs.Inner.Turn.{Turn};
 
 // The machine after some bytes, and how many.
 pub struct Turned {
@@ -31,15 +31,21 @@ pub struct Turned {
 }
 
 // Applies what the control machine made of a word or a byte.
-fn finish(fed: Fed, words: u32, frame: &mut FrameBuffer, memory: &mut [u8], taken: usize) -> Turned
+fn finish(
+    transition: Transition,
+    words: u32,
+    frame: &mut FrameBuffer,
+    memory: &mut [u8],
+    taken: usize,
+) -> Turned
     requires { ⌜ words ≤ 213 ⌝ }
-    ensures { λ r. ⌜ (r .phase ≡ fed .phase) × (r .control ≡ fed .control) × (r .taken ≡ taken) ⌝ }
-    ensures { λ _. ⌜ now (frame .exit) ≡ buffered (fed .event) (now (frame .entry)) ⌝ }
-    ensures { λ _. ⌜ now (memory .exit) ≡ stored words (fed .event) (now (frame .entry)) (now (memory .entry)) ⌝ }
+    ensures { λ r. ⌜ (r .phase ≡ transition .phase) × (r .control ≡ transition .control) × (r .taken ≡ taken) ⌝ }
+    ensures { λ _. ⌜ now (frame .exit) ≡ buffered (transition .event) (now (frame .entry)) ⌝ }
+    ensures { λ _. ⌜ now (memory .exit) ≡ stored words (transition .event) (now (frame .entry)) (now (memory .entry)) ⌝ }
 {
-    let event = fed.event;
-    let phase = fed.phase;
-    let control = fed.control;
+    let event = transition.event;
+    let phase = transition.phase;
+    let control = transition.control;
     apply(event, words, frame, memory);
     Turned {
         phase: phase,
@@ -58,7 +64,7 @@ fn step_byte(
     i: usize,
 ) -> Turned
     requires { ⌜ (i < length (now bytes)) × (isStopped phase ≡ false) × (words ≡ lengthAt (control .device)) ⌝ }
-    ensures { λ r. ⌜ Turn (device phase control (now (frame .entry))) (now (memory .entry)) (device (r .phase) (r .control) (now (frame .exit))) (now (memory .exit)) (now (bytes .entry)) i (r .taken) ⌝ }
+    ensures { λ r. ⌜ Turn (recordOf phase control (now (frame .entry))) (now (memory .entry)) (recordOf (r .phase) (r .control) (now (frame .exit))) (now (memory .exit)) (now (bytes .entry)) i (r .taken) ⌝ }
 {
     finish(
         config::byte(phase, control, bytes[i]),
@@ -78,8 +84,8 @@ fn step_word(
     bytes: &[u8],
     i: usize,
 ) -> Turned
-    requires { ⌜ (i + 4 ≤ length (now bytes)) × (takesWords phase ≡ true) × (control .partial ≡ Bytes.Zero) × (words ≡ lengthAt (control .device)) ⌝ }
-    ensures { λ r. ⌜ Turn (device phase control (now (frame .entry))) (now (memory .entry)) (device (r .phase) (r .control) (now (frame .exit))) (now (memory .exit)) (now (bytes .entry)) i (r .taken) ⌝ }
+    requires { ⌜ (i + 4 ≤ length (now bytes)) × (takesWords phase ≡ true) × (control .partial ≡ PartialWord.Zero) × (words ≡ lengthAt (control .device)) ⌝ }
+    ensures { λ r. ⌜ Turn (recordOf phase control (now (frame .entry))) (now (memory .entry)) (recordOf (r .phase) (r .control) (now (frame .exit))) (now (memory .exit)) (now (bytes .entry)) i (r .taken) ⌝ }
 {
     finish(
         config::word(phase, control, word_at(bytes, i)),
@@ -101,8 +107,8 @@ fn step_fill(
     i: usize,
     n: u32,
 ) -> Turned
-    requires { ⌜ (1 ≤ n) × (n < left) × (filled + n < words) × (i + 4 * n ≤ length (now bytes)) × (control .partial ≡ Bytes.Zero) × (words ≡ lengthAt (control .device)) ⌝ }
-    ensures { λ r. ⌜ ((m : List ℕ) → Turn (device (Phase.Data Register.Fdri left filled) control (now (frame .entry))) m (device (r .phase) (r .control) (now (frame .exit))) m (now (bytes .entry)) i (r .taken)) ⌝ }
+    requires { ⌜ (1 ≤ n) × (n < left) × (filled + n < words) × (i + 4 * n ≤ length (now bytes)) × (control .partial ≡ PartialWord.Zero) × (words ≡ lengthAt (control .device)) ⌝ }
+    ensures { λ r. ⌜ ((m : List ℕ) → Turn (recordOf (Phase.Data Register.Fdri left filled) control (now (frame .entry))) m (recordOf (r .phase) (r .control) (now (frame .exit))) m (now (bytes .entry)) i (r .taken)) ⌝ }
 {
     let mut registers = control.registers;
     let done = fill(
@@ -160,8 +166,8 @@ fn step_data(
     bytes: &[u8],
     i: usize,
 ) -> Turned
-    requires { ⌜ (i + 4 ≤ length (now bytes)) × (control .partial ≡ Bytes.Zero) × (words ≡ lengthAt (control .device)) ⌝ }
-    ensures { λ r. ⌜ Turn (device (Phase.Data register left filled) control (now (frame .entry))) (now (memory .entry)) (device (r .phase) (r .control) (now (frame .exit))) (now (memory .exit)) (now (bytes .entry)) i (r .taken) ⌝ }
+    requires { ⌜ (i + 4 ≤ length (now bytes)) × (control .partial ≡ PartialWord.Zero) × (words ≡ lengthAt (control .device)) ⌝ }
+    ensures { λ r. ⌜ Turn (recordOf (Phase.Data register left filled) control (now (frame .entry))) (now (memory .entry)) (recordOf (r .phase) (r .control) (now (frame .exit))) (now (memory .exit)) (now (bytes .entry)) i (r .taken) ⌝ }
 {
     let phase = Phase::Data {
         register: register,
@@ -190,8 +196,8 @@ fn step_words(
     bytes: &[u8],
     i: usize,
 ) -> Turned
-    requires { ⌜ (i + 4 ≤ length (now bytes)) × (isStopped phase ≡ false) × (control .partial ≡ Bytes.Zero) × (words ≡ lengthAt (control .device)) ⌝ }
-    ensures { λ r. ⌜ Turn (device phase control (now (frame .entry))) (now (memory .entry)) (device (r .phase) (r .control) (now (frame .exit))) (now (memory .exit)) (now (bytes .entry)) i (r .taken) ⌝ }
+    requires { ⌜ (i + 4 ≤ length (now bytes)) × (isStopped phase ≡ false) × (control .partial ≡ PartialWord.Zero) × (words ≡ lengthAt (control .device)) ⌝ }
+    ensures { λ r. ⌜ Turn (recordOf phase control (now (frame .entry))) (now (memory .entry)) (recordOf (r .phase) (r .control) (now (frame .exit))) (now (memory .exit)) (now (bytes .entry)) i (r .taken) ⌝ }
 {
     match phase {
         Phase::Header(_) => step_word(phase, control, words, frame, memory, bytes, i),
@@ -227,14 +233,14 @@ pub(crate) fn advance(
     i: usize,
 ) -> Turned
     requires { ⌜ (i < length (now bytes)) × (isStopped phase ≡ false) × (words ≡ lengthAt (control .device)) ⌝ }
-    ensures { λ r. ⌜ Turn (device phase control (now (frame .entry))) (now (memory .entry)) (device (r .phase) (r .control) (now (frame .exit))) (now (memory .exit)) (now (bytes .entry)) i (r .taken) ⌝ }
+    ensures { λ r. ⌜ Turn (recordOf phase control (now (frame .entry))) (now (memory .entry)) (recordOf (r .phase) (r .control) (now (frame .exit))) (now (memory .exit)) (now (bytes .entry)) i (r .taken) ⌝ }
 {
     if bytes.len() - i < 4 {
         return step_byte(phase, control, words, frame, memory, bytes, i);
     }
     let partial = control.partial;
     match partial {
-        Bytes::Zero => step_words(phase, control, words, frame, memory, bytes, i),
+        PartialWord::Zero => step_words(phase, control, words, frame, memory, bytes, i),
         _ => step_byte(phase, control, words, frame, memory, bytes, i),
     }
 }

@@ -1,3 +1,3 @@
-pub mod Number
-pub mod Groups
-pub mod Code
+pub mod Number  -- the number that begins at an offset of a layout
+pub mod Laws  -- what is proved of the definitions
+pub mod Inner  -- vocabulary of private contracts and of loops, with its laws

@@ -6,7 +6,7 @@ use mathlib.Core.List.{List, [], _∷_}
 use mathlib.Core.Bool.{Bool, true, false, cond, not, _&&_}
 use lib.Dec.{eqb, ltb}
 use lib.ListN.{drop}
-use Rattle.answers.specs.Refusals.{causeNumber}
+use Rattle.answers.specs.LayoutRefusals.{causeNumber}
 use Rattle.answers.specs.declared.layout.Cause.the-variants as Cause
 use Rattle.numbers.specs.declared.Number.{Number}
 use Rattle.numbers.specs.declared.Number.the-variants as Number

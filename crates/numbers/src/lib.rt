@@ -4,7 +4,7 @@ use answers::layout::cause_number;
 ghost use mathlib.Core.Path.{_≡_};
 ghost use Prim.Native.Nat.{_+_, _*_, _^_, _<_};
 ghost use Rattle.numbers.specs.Number.{lastGroup, numberAt, readRefusal, readValue};
-ghost use Rattle.numbers.specs.Groups.{scaled};
+ghost use Rattle.numbers.specs.Inner.Groups.{scaled};
 
 // A number that was read, with the offset after it, or why there is none.
 pub enum Number {

@@ -2,7 +2,7 @@
 -- Sources: 01, "The eight parts", second paragraph; 001, Tables 12 and 13.
 use Prim.Native.Nat.{ℕ, zero, suc, _+_}
 use mathlib.Core.List.{List, [], _∷_, _++_}
-use Rattle.parts.specs.declared.device.Part.{Part}
+use Rattle.parts.specs.declared.table.Part.{Part}
 use Rattle.parts.specs.declared.frame.Run.{Run}
 
 -- a column: its place in a frame address, and how many frames (minors) it has

@@ -1,94 +1,87 @@
--- The table against the figures that the papers print: 01's columns L and F, and 001's Table 7.
--- Each is one computation over the whole table; a part's limits at any device number are one computed test.
-use mathlib.Core.Path.{_≡_, refl}
-use mathlib.Core.List.{List, [], _∷_, map}
-use mathlib.Core.Bool.{Bool, true, _&&_, and-eq-true-iff}
-use Prim.Native.Nat.{ℕ, zero, suc, _*_, _≤_, _<_}
-use native.Mathlib.Nat.{le-of-suc-le-suc, not-suc-le-zero, mul-le-mul, le-refl}
-use native.Mathlib.Omega.{arith}
-use native.Mathlib.Decide.{decLt}
-use lib.Dec.{leb}
-use lib.ListN.{length, getD}
-use borrow.Author.Tests.{lt-ltb, le-ltb, leb-true}
-use Rattle.parts.specs.Device.{part, parts, partOf, idcodeOf, frameLength, frameCount, memoryLength}
-use Rattle.parts.specs.declared.device.Part.{Part}
-use Rattle.parts.specs.declared.device.PartAnswer.{PartAnswer}
-use Rattle.parts.specs.declared.device.PartAnswer.the-variants as PartAnswer
+-- The eight parts and the figures that follow from R, C and B.
+-- Sources: 01, "The eight parts"; 001, Tables 7 and 8.
+use Prim.Native.Nat.{ℕ, _+_, _*_}
+use mathlib.Core.List.{List, [], _∷_}
+use mathlib.Core.Bool.{cond}
+use lib.Dec.{ltb}
+use lib.ListN.{getD}
+use Rattle.parts.specs.declared.table.Part.{Part}
+use Rattle.parts.specs.declared.table.PartAnswer.{PartAnswer}
+use Rattle.parts.specs.declared.table.PartAnswer.the-variants as PartAnswer
+use Rattle.parts.specs.declared.table.Figure.{Figure}
+use Rattle.parts.specs.declared.table.Figure.the-variants as Figure
 
--- 01, "The eight parts": the column "words a frame"
-pub frame-lengths : map frameLength parts ≡ 37 ∷ 53 ∷ 69 ∷ 101 ∷ 133 ∷ 165 ∷ 197 ∷ 213 ∷ []
-unfolding parts frameLength
-frame-lengths = refl
+abbrev pub part : ℕ → ℕ → ℕ → ℕ → Part
+part i r c b = record { idcode = i; rows = r; columns = c; «ram_columns» = b }
 
--- 01, "The eight parts": the column "frames"; 001, Table 7, "# of Frames"
-pub frame-counts : map frameCount parts ≡ 368 ∷ 615 ∷ 767 ∷ 995 ∷ 1223 ∷ 1451 ∷ 1793 ∷ 1945 ∷ []
-unfolding parts frameCount
-frame-counts = refl
+-- 01: the table of IDCODE, R, C and B by device number; the IDCODEs are 001's, Table 8
+unfoldable pub parts : List Part
+parts =
+    part 0x0140D093 16 12 1
+    ∷ part 0x01414093 24 20 2
+    ∷ part 0x0141C093 32 28 2
+    ∷ part 0x11428093 48 40 2
+    ∷ part 0x01434093 64 52 2
+    ∷ part 0x01440093 80 64 2
+    ∷ part 0x01448093 96 72 4
+    ∷ part 0x01450093 104 80 4
+    ∷ []
 
--- 001, Table 7, "Frame Length in Bits"
-pub frame-bits : map (λ p. 32 * frameLength p) parts ≡ 1184 ∷ 1696 ∷ 2208 ∷ 3232 ∷ 4256 ∷ 5280 ∷ 6304 ∷ 6816 ∷ []
-unfolding parts frameLength
-frame-bits = refl
+-- 01, refusal 21: device number above 7
+unfoldable pub partOf : ℕ → PartAnswer
+partOf d = cond (ltb d 8) (PartAnswer.Known (getD parts d (part 0 0 0 0))) PartAnswer.UnknownDevice
 
--- 001, Table 7, "Configuration Bits"
-pub configuration-bits : map (λ p. 8 * memoryLength p) parts
-    ≡ 435712 ∷ 1043040 ∷ 1693536 ∷ 3215840 ∷ 5205088 ∷ 7661280 ∷ 11303072 ∷ 13257120 ∷ []
-unfolding parts memoryLength frameLength frameCount
-configuration-bits = refl
+-- a figure of a part, for the part that a device number names
+unfoldable pub figureOf : (Part → ℕ) → PartAnswer → Figure
+figureOf f (PartAnswer.Known p) = Figure.Value (f p)
+figureOf f PartAnswer.UnknownDevice = Figure.UnknownDevice
 
--- ---- the limits of every part
+abbrev pub figure : (Part → ℕ) → ℕ → Figure
+figure f d = figureOf f (partOf d)
 
-within : Part → Bool
-within p = leb (p .rows) 104 && leb (p .columns) 80 && leb (p .«ram_columns») 4 && leb (p .idcode) 0xFFFFFFFF
+-- 01's number of an answer, 0 where nothing is refused
+abbrev pub partRefusal : PartAnswer → ℕ
+partRefusal (PartAnswer.Known p) = 0
+partRefusal PartAnswer.UnknownDevice = 21
 
-all : (Part → Bool) → List Part → Bool
-all f [] = true
-all f (p ∷ ps) = f p && all f ps
+abbrev pub figureRefusal : Figure → ℕ
+figureRefusal (Figure.Value v) = 0
+figureRefusal Figure.UnknownDevice = 21
 
-at : (f : Part → Bool) (ps : List Part) (z : Part) → all f ps ≡ true → (k : ℕ) → k < length ps → f (getD ps k z) ≡ true
-unfolding all
-at f [] z t k h = absurd (not-suc-le-zero h)
-at f (p ∷ ps) z t zero h = and-eq-true-iff (f p) (all f ps) .0 t .0
-at f (p ∷ ps) z t (suc k) h = at f ps z (and-eq-true-iff (f p) (all f ps) .0 t .1) k (le-of-suc-le-suc h)
+-- the number that a figure tells, 0 where it is refused
+unfoldable pub valueOf : Figure → ℕ
+valueOf (Figure.Value v) = v
+valueOf Figure.UnknownDevice = 0
 
-pub record Limits (p : Part) : Type 0 where
-  pub rows : p .rows ≤ 104
-  pub columns : p .columns ≤ 80
-  pub ram-columns : p .«ram_columns» ≤ 4
-  pub idcode : p .idcode ≤ 0xFFFFFFFF
+-- 001, Table 8
+unfoldable pub idcodeOf : Part → ℕ
+idcodeOf p = p .idcode
 
-limits : (p : Part) → within p ≡ true → Limits p
-unfolding within
-limits p t =
-    let all = and-eq-true-iff (leb (p .rows) 104 && leb (p .columns) 80 && leb (p .«ram_columns») 4) (leb (p .idcode) 0xFFFFFFFF) .0 t in
-    let both = and-eq-true-iff (leb (p .rows) 104 && leb (p .columns) 80) (leb (p .«ram_columns») 4) .0 (all .0) in
-    let first = and-eq-true-iff (leb (p .rows) 104) (leb (p .columns) 80) .0 (both .0) in
-    record { rows = leb-true _ _ (first .0); columns = leb-true _ _ (first .1); ram-columns = leb-true _ _ (both .1); idcode = leb-true _ _ (all .1) }
+-- 01: "Frame length L = 2R + 5 words"
+unfoldable pub frameLength : Part → ℕ
+frameLength p = 2 * p .rows + 5
 
--- the figures of the XC3S5000 bound them all
-pub length-limit : (p : Part) → Limits p → frameLength p ≤ 213
-unfolding frameLength
-length-limit p l = omega arith
+-- 01: "Frames F = 45 + 19C + 95B"
+unfoldable pub frameCount : Part → ℕ
+frameCount p = 45 + 19 * p .columns + 95 * p .«ram_columns»
 
-pub count-limit : (p : Part) → Limits p → frameCount p ≤ 1945
-unfolding frameCount
-count-limit p l = omega arith
+-- 01: "Memory is 4·L·F bytes"
+unfoldable pub memoryLength : Part → ℕ
+memoryLength p = 4 * frameLength p * frameCount p
 
-pub memory-limit : (p : Part) → Limits p → memoryLength p ≤ 1657140
-unfolding memoryLength
-memory-limit p l = mul-le-mul (mul-le-mul (le-refl 4) (length-limit p l)) (count-limit p l)
+-- ---- the figures of a device number; 0 where it names no part
 
--- IDCODE is a word
-pub idcode-limit : (p : Part) → Limits p → idcodeOf p ≤ 0xFFFFFFFF
-unfolding idcodeOf
-idcode-limit p l = l .idcode
+abbrev pub idcodeAt : ℕ → ℕ
+idcodeAt d = valueOf (figure idcodeOf d)
 
-pub known-limits : (d : ℕ) (p : Part) → partOf d ≡ PartAnswer.Known p → Limits p
-unfolding partOf parts within all
-known-limits d p e =
-    elim (decLt d 8) [
-      | yes h ↦
-          let same : getD parts d (part 0 0 0 0) ≡ p = cc (lt-ltb d 8 h) in
-          rw (← same) (limits _ (at within parts (part 0 0 0 0) refl d h))
-      | no h ↦ let z : _≡_ {A = ℕ} 0 1 = cc (le-ltb d 8 (omega arith)) in absurd (omega arith)
-    ]
+-- L
+abbrev pub lengthAt : ℕ → ℕ
+lengthAt d = valueOf (figure frameLength d)
+
+-- F
+abbrev pub countAt : ℕ → ℕ
+countAt d = valueOf (figure frameCount d)
+
+-- 4·L·F
+abbrev pub memoryAt : ℕ → ℕ
+memoryAt d = valueOf (figure memoryLength d)

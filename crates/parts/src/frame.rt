@@ -1,16 +1,16 @@
 // Frame numbers and frame addresses, each from the other. Number to address goes by subtraction over the columns: no
 // division and no remainder, so that a board without a divide instruction can do it.
-use crate::device::Part;
-use crate::device::PartAnswer;
-use crate::device::part_of;
+use crate::table::Part;
+use crate::table::PartAnswer;
+use crate::table::part_of;
 ghost use mathlib.Core.Path.{_≡_};
 ghost use mathlib.Core.List.{List, _++_};
 ghost use Prim.Native.Nat.{_+_, _*_, _<_, _≤_};
 ghost use lib.ListN.{getD};
-ghost use Rattle.parts.specs.Table.{Limits};
+ghost use Rattle.parts.specs.Laws.PrintedFigures.{Limits};
 ghost use Rattle.parts.specs.Columns.{Column, run, runs, columns, runColumns};
-ghost use Rattle.parts.specs.Address.{address, addressFields, addressIn, numberIn, frameAddress, frameNumber, addressRefusal, numberRefusal};
-ghost use Rattle.parts.specs.Runs.{Placed, resumed, inRun};
+ghost use Rattle.parts.specs.FrameAddress.{address, addressFields, addressIn, numberIn, frameAddress, frameNumber, addressRefusal, numberRefusal};
+ghost use Rattle.parts.specs.Inner.ColumnRuns.{FieldsFit, resumed, inRun};
 
 // The frame address of a frame number.
 pub enum AddressAnswer {
@@ -83,7 +83,7 @@ fn address_of(block: u32, major: u32, minor: u32) -> u32
 
 // The columns, passed in eights, that lie whole before a number counted from the run's first frame.
 fn leap(run: Run, number: u32) -> u32
-    requires { ⌜ Placed run ⌝ }
+    requires { ⌜ FieldsFit run ⌝ }
     ensures { λ r. ⌜ (r ≤ run .columns) × (r * run .minors ≤ number) ⌝ }
 {
     let stride = 8 * run.minors;
@@ -101,7 +101,7 @@ fn leap(run: Run, number: u32) -> u32
 
 // Looks for a number, counted from the run's first frame: eight columns at a time, then column by column.
 fn search_run(run: Run, number: u32) -> Search
-    requires { ⌜ Placed run ⌝ }
+    requires { ⌜ FieldsFit run ⌝ }
     ensures { λ r. ⌜ ((rest : List Column) → addressIn (runColumns run ++ rest) number ≡ resumed r rest) ⌝ }
 {
     let mut i = leap(run, number);
@@ -140,7 +140,7 @@ fn address_in(part: Part, number: u32) -> AddressAnswer
 
 // The frame is in the run.
 fn in_run(run: Run, block: u32, major: u32, minor: u32) -> bool
-    requires { ⌜ Placed run ⌝ }
+    requires { ⌜ FieldsFit run ⌝ }
     ensures { λ r. ⌜ r ≡ inRun run block major minor ⌝ }
 {
     if run.block != block {

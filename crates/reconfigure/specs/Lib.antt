@@ -1,17 +1,3 @@
-pub mod Goes
-pub mod Headers
-pub mod State
-pub mod Writes
-pub mod Multi
-pub mod Filling
-pub mod Frames
-pub mod FrameData
-pub mod Steps
-pub mod Sync
-pub mod Whole
-pub mod Demand3
-pub mod Reconfigured
-pub mod Promise
-pub mod Corollaries
-pub mod FromPowerOn
-pub mod Throughout
+pub mod Reconfigured  -- a layout compiled for the record's own device, and the stream loaded
+pub mod Promise  -- what a reconfiguration promises by its answer: demand 3, or that nothing changed
+pub mod Laws  -- what is proved of the definitions

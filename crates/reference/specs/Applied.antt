@@ -5,11 +5,11 @@ use mathlib.Core.List.{List}
 use mathlib.Core.Bool.{cond}
 use lib.Dec.{eqb}
 use lib.ListN.{length}
-use Rattle.parts.specs.Device.{memoryAt}
+use Rattle.parts.specs.Table.{memoryAt}
 use Rattle.answers.specs.declared.layout.Verdict.{Verdict}
 use Rattle.answers.specs.declared.layout.Verdict.the-variants as Verdict
 use Rattle.layout.specs.Layout.{check}
-use Rattle.layout.specs.Machine.{machine}
+use Rattle.layout.specs.ReferenceMachine.{machine}
 use Rattle.layout.specs.declared.FrameRange.{FrameRange}
 
 pub record Applied : Type 0 where

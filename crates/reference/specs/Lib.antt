@@ -1,5 +1,3 @@
-pub mod Applied
-pub mod Copy
-pub mod Doing
-pub mod List
-pub mod Outside
+pub mod Applied  -- a layout applied to a memory, with its refusals
+pub mod Laws  -- what is proved of the definitions
+pub mod Inner  -- vocabulary of private contracts and of loops, with its laws

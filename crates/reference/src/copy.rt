@@ -4,10 +4,10 @@ use numbers::read_number;
 ghost use mathlib.Core.Path.{_≡_};
 ghost use Prim.Native.Nat.{_+_, _*_, _≤_};
 ghost use lib.ListN.{length, take, drop};
-ghost use Rattle.parts.specs.Memory.{placed};
+ghost use Rattle.parts.specs.FrameMemory.{placed};
 ghost use Rattle.layout.specs.Step.{frames};
-ghost use Rattle.layout.specs.Machine.{written, spread};
-ghost use Rattle.layout.specs.Targets.{numbersAt, Roomy};
+ghost use Rattle.layout.specs.ReferenceMachine.{written, spread};
+ghost use Rattle.layout.specs.Inner.TargetNumbers.{numbersAt, Roomy};
 
 // Frame n, of frames of l words, becomes the bytes of the layout from an offset on.
 pub(crate) fn copy_frame(l: usize, n: usize, layout: &[u8], body: usize, memory: &mut [u8])

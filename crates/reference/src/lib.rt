@@ -4,8 +4,8 @@ mod steps; // steps.rt: the list of steps
 
 use answers::layout::Verdict;
 use layout::FrameRange;
-use parts::device::memory_length;
-use parts::device::value_of;
+use parts::table::memory_length;
+use parts::table::value_of;
 ghost use mathlib.Core.Path.{_≡_};
 ghost use Rattle.reference.specs.Applied.{applied};
 

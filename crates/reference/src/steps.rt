@@ -6,20 +6,20 @@ use layout::step::StepAt;
 use layout::step::read_step;
 use numbers::Number;
 use numbers::read_number;
-use parts::device::frame_length;
-use parts::device::value_of;
+use parts::table::frame_length;
+use parts::table::value_of;
 ghost use mathlib.Core.Path.{_≡_};
 ghost use mathlib.Core.Bool.{true};
 ghost use Prim.Native.Nat.{_≤_};
 ghost use lib.ListN.{length};
-ghost use Rattle.parts.specs.Device.{lengthAt, countAt, memoryAt};
-ghost use Rattle.layout.specs.Range.{owns};
-ghost use Rattle.layout.specs.Reader.{stepsAt, stepOffset};
+ghost use Rattle.parts.specs.Table.{lengthAt, countAt, memoryAt};
+ghost use Rattle.layout.specs.Ownership.{owns};
+ghost use Rattle.layout.specs.StepReading.{stepsAt, stepOffset};
 ghost use Rattle.layout.specs.Layout.{layoutRead};
-ghost use Rattle.layout.specs.Machine.{allDone, madeOf, machine};
-ghost use Rattle.layout.specs.Accepting.{isRead};
-ghost use Rattle.layout.specs.First.{stepOf, StepBytes};
-ghost use Rattle.reference.specs.List.{StepRoom};
+ghost use Rattle.layout.specs.ReferenceMachine.{allDone, madeOf, machine};
+ghost use Rattle.layout.specs.Laws.AcceptedLayout.{isRead};
+ghost use Rattle.layout.specs.Inner.FirstStep.{stepOf, StepBytes};
+ghost use Rattle.reference.specs.Inner.StepList.{StepRoom};
 
 // Does one step that was read. Returns the offset that it tells.
 fn apply_step(l: usize, layout: &[u8], step: StepAt, memory: &mut [u8]) -> usize

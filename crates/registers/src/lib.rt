@@ -16,14 +16,14 @@ pub enum Register {
     Idcode,
 }
 
-// The register that a type 2 header would use, if the word before was a type 1 write of count 0.
-pub enum Open {
-    Closed,
-    After(Register),
+// What stands at an address: a register that can be written, or none.
+pub enum RegisterAnswer {
+    Writable(Register),
+    NotWritable,
 }
 
 ghost use mathlib.Core.Path.{_≡_};
-ghost use Rattle.registers.specs.Addresses.{addressOf, isFdri, isMfwr, isLout, registerAt};
+ghost use Rattle.registers.specs.RegisterAddresses.{addressOf, isFdri, isMfwr, isLout, registerAt};
 
 // The address of a register (001, Table 1).
 pub fn address_of(register: Register) -> u32
@@ -63,21 +63,21 @@ pub fn is_lout(register: Register) -> bool
 }
 
 // The register at an address, if there is one and it can be written.
-pub fn register_at(address: u32) -> Open
+pub fn register_at(address: u32) -> RegisterAnswer
     ensures { λ r. ⌜ r ≡ registerAt address ⌝ }
 {
     match address {
-        0 => Open::After(Register::Crc),
-        1 => Open::After(Register::Far),
-        2 => Open::After(Register::Fdri),
-        4 => Open::After(Register::Cmd),
-        5 => Open::After(Register::Ctl),
-        6 => Open::After(Register::Mask),
-        8 => Open::After(Register::Lout),
-        9 => Open::After(Register::Cor),
-        10 => Open::After(Register::Mfwr),
-        11 => Open::After(Register::Flr),
-        14 => Open::After(Register::Idcode),
-        _ => Open::Closed,
+        0 => RegisterAnswer::Writable(Register::Crc),
+        1 => RegisterAnswer::Writable(Register::Far),
+        2 => RegisterAnswer::Writable(Register::Fdri),
+        4 => RegisterAnswer::Writable(Register::Cmd),
+        5 => RegisterAnswer::Writable(Register::Ctl),
+        6 => RegisterAnswer::Writable(Register::Mask),
+        8 => RegisterAnswer::Writable(Register::Lout),
+        9 => RegisterAnswer::Writable(Register::Cor),
+        10 => RegisterAnswer::Writable(Register::Mfwr),
+        11 => RegisterAnswer::Writable(Register::Flr),
+        14 => RegisterAnswer::Writable(Register::Idcode),
+        _ => RegisterAnswer::NotWritable,
     }
 }

@@ -1,24 +1,24 @@
 // The C interface: thin exported functions over the proved library. include/seamwillow.h declares them for C.
 ghost use mathlib.Core.Path.{_≡_};
 ghost use Prim.Native.Nat.{_%_};
-ghost use Rattle.crc16.specs.Register.{feed};
-ghost use Rattle.parts.specs.Device.{partOf, partRefusal, idcodeAt, lengthAt, countAt, memoryAt};
-ghost use Rattle.parts.specs.Address.{addressFields, frameAddress, frameNumber, addressRefusal, numberRefusal, addressTold};
-ghost use Rattle.answers.specs.Refusals.{verdictNumber, verdictValue};
-ghost use Rattle.layout.specs.Range.{range};
+ghost use Rattle.crc16.specs.CrcRegister.{feed};
+ghost use Rattle.parts.specs.Table.{partOf, partRefusal, idcodeAt, lengthAt, countAt, memoryAt};
+ghost use Rattle.parts.specs.FrameAddress.{addressFields, frameAddress, frameNumber, addressRefusal, numberRefusal, addressTold};
+ghost use Rattle.answers.specs.LayoutRefusals.{verdictNumber, verdictValue};
+ghost use Rattle.layout.specs.Ownership.{range};
 ghost use Rattle.layout.specs.Layout.{check};
 ghost use Rattle.reference.specs.Applied.{applied};
 ghost use Rattle.compiler.specs.Compiled.{compiled};
-ghost use Rattle.seamwillow.specs.Told.{numberTold};
-ghost use Rattle.seamwillow.specs.Records.{poweredImage, loadedImage, reconfiguredImage};
+ghost use Rattle.seamwillow.specs.NumberTold.{numberTold};
+ghost use Rattle.seamwillow.specs.RecordCalls.{poweredImage, loadedImage, reconfiguredImage};
 use answers::change::change_number;
 use answers::change::change_value;
 use answers::layout::verdict_number;
 use answers::layout::verdict_value;
 use layout::FrameRange;
-use parts::device::value_of;
 use parts::frame::AddressAnswer;
 use parts::frame::NumberAnswer;
+use parts::table::value_of;
 
 // The CRC register after a word is fed for a register address.
 #[no_mangle]
@@ -43,11 +43,11 @@ pub extern "C" fn sw_part(
     ensures { λ _. ⌜ now (frames .exit) ≡ countAt device ⌝ }
     ensures { λ _. ⌜ now («memory_len» .exit) ≡ memoryAt device ⌝ }
 {
-    *idcode = value_of(parts::device::idcode(device));
-    *frame_words = value_of(parts::device::frame_length(device));
-    *frames = value_of(parts::device::frame_count(device));
-    *memory_len = value_of(parts::device::memory_length(device)) as u64;
-    parts::device::part_refusal(parts::device::part_of(device))
+    *idcode = value_of(parts::table::idcode(device));
+    *frame_words = value_of(parts::table::frame_length(device));
+    *frames = value_of(parts::table::frame_count(device));
+    *memory_len = value_of(parts::table::memory_length(device)) as u64;
+    parts::table::part_refusal(parts::table::part_of(device))
 }
 
 // The frame address of a frame number: 01's number is returned, the address written.
@@ -116,13 +116,13 @@ pub extern "C" fn sw_power_on(device: u32, state: &mut [u8], memory: &mut [u8]) 
     ensures { λ _. ⌜ now (state .exit) ≡ poweredImage device (now (state .entry)) (now (memory .entry)) .image ⌝ }
     ensures { λ _. ⌜ now (memory .exit) ≡ poweredImage device (now (state .entry)) (now (memory .entry)) .memory ⌝ }
 {
-    if state.len() != image::RECORD_LENGTH {
+    if state.len() != record_image::RECORD_LENGTH {
         return 22;
     }
-    let on = device::power_on(device, memory);
-    let fresh = on.device;
+    let on = record::power_on(device, memory);
+    let fresh = on.record;
     let answer = on.answer;
-    image::encode::encode(fresh, state);
+    record_image::encode::encode(fresh, state);
     answers::answer_number(answer)
 }
 
@@ -139,15 +139,15 @@ pub extern "C" fn sw_load(
     ensures { λ _. ⌜ now (memory .exit) ≡ loadedImage (now (state .entry)) (now (memory .entry)) (now (stream .entry)) .memory ⌝ }
     ensures { λ _. ⌜ now (taken .exit) ≡ loadedImage (now (state .entry)) (now (memory .entry)) (now (stream .entry)) .taken ⌝ }
 {
-    let device = image::decode::decode(state);
-    if !image::encode::matches(device, state) {
+    let record = record_image::decode::decode(state);
+    if !record_image::encode::matches(record, state) {
         *taken = 0;
         return 22;
     }
-    let loaded = loader::load(device, memory, stream);
-    let after = loaded.device;
+    let loaded = loader::load(record, memory, stream);
+    let after = loaded.record;
     let answer = loaded.answer;
-    image::encode::encode(after, state);
+    record_image::encode::encode(after, state);
     *taken = loaded.taken;
     answers::answer_number(answer)
 }
@@ -236,8 +236,8 @@ pub extern "C" fn sw_reconfigure(
     ensures { λ _. ⌜ now (out .exit) ≡ reconfiguredImage (now (state .entry)) (now (memory .entry)) (range first count) (now (layout .entry)) (now (out .entry)) .output ⌝ }
     ensures { λ _. ⌜ now (value .exit) ≡ reconfiguredImage (now (state .entry)) (now (memory .entry)) (range first count) (now (layout .entry)) (now (out .entry)) .value ⌝ }
 {
-    let device = image::decode::decode(state);
-    if !image::encode::matches(device, state) {
+    let record = record_image::decode::decode(state);
+    if !record_image::encode::matches(record, state) {
         *value = 0;
         return 22;
     }
@@ -245,10 +245,10 @@ pub extern "C" fn sw_reconfigure(
         first: first,
         count: count,
     };
-    let done = reconfigure::reconfigure(device, memory, range, layout, out);
-    let changed = done.device;
+    let done = reconfigure::reconfigure(record, memory, range, layout, out);
+    let changed = done.record;
     let change = done.change;
-    image::encode::encode(changed, state);
+    record_image::encode::encode(changed, state);
     *value = change_value(change);
     change_number(change)
 }

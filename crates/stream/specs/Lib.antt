@@ -1,6 +1,3 @@
-pub mod Packets
-pub mod Stream
-pub mod After
-pub mod Length
-pub mod Words
-pub mod Frames
+pub mod StreamPackets  -- the packets of a stream that is written, with the CRC that runs along
+pub mod Stream  -- the stream of a list of steps
+pub mod Laws  -- what is proved of the definitions

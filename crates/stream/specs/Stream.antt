@@ -3,13 +3,13 @@
 use Prim.Native.Nat.{ℕ, zero, suc, _+_, _-_, _*_, _^_}
 use mathlib.Core.List.{List, [], _∷_, _++_}
 use lib.ListN.{getD, drop, replicate}
-use Rattle.parts.specs.Device.{idcodeAt, lengthAt}
-use Rattle.parts.specs.Memory.{bytesOf}
-use Rattle.parts.specs.Address.{frameAddress, addressTold}
-use Rattle.registers.specs.Codes.{WCFG, MFWR, RCRC, DESYNC}
+use Rattle.parts.specs.Table.{idcodeAt, lengthAt}
+use Rattle.parts.specs.FrameMemory.{bytesOf}
+use Rattle.parts.specs.FrameAddress.{frameAddress, addressTold}
+use Rattle.registers.specs.CommandCodes.{WCFG, MFWR, RCRC, DESYNC}
 use Rattle.registers.specs.declared.Register.the-variants as Register
 use Rattle.layout.specs.Step.{Step, FrameWrite, MultiFrameWrite}
-use Rattle.stream.specs.Packets.{Packet, packetsWords}
+use Rattle.stream.specs.StreamPackets.{Packet, packetsWords}
 
 -- k words of bytes, high byte first
 unfoldable pub wordsFrom : ℕ → List ℕ → List ℕ

@@ -1,8 +1,8 @@
 // Prints document 01's worked examples for the parts and the CRC, as the proved library answers them.
 use libc::STDOUT_FILENO;
-use parts::device::Figure;
 use parts::frame::AddressAnswer;
 use parts::frame::NumberAnswer;
+use parts::table::Figure;
 
 fn text(s: &[u8]) {
     io::write_all(STDOUT_FILENO, s);
@@ -25,14 +25,14 @@ fn print_figure(label: &[u8], f: Figure) {
     text(label);
     match f {
         Figure::Value(v) => decimal(v),
-        Figure::UnknownDevice => refused(parts::device::figure_refusal(f)),
+        Figure::UnknownDevice => refused(parts::table::figure_refusal(f)),
     }
 }
 
 fn print_idcode(f: Figure) {
     match f {
         Figure::Value(v) => hex(v),
-        Figure::UnknownDevice => refused(parts::device::figure_refusal(f)),
+        Figure::UnknownDevice => refused(parts::table::figure_refusal(f)),
     }
 }
 
@@ -41,10 +41,10 @@ fn print_part(device: u32) {
     text(b"device ");
     decimal(device);
     text(b" idcode ");
-    print_idcode(parts::device::idcode(device));
-    print_figure(b" words ", parts::device::frame_length(device));
-    print_figure(b" frames ", parts::device::frame_count(device));
-    print_figure(b" bytes ", parts::device::memory_length(device));
+    print_idcode(parts::table::idcode(device));
+    print_figure(b" words ", parts::table::frame_length(device));
+    print_figure(b" frames ", parts::table::frame_count(device));
+    print_figure(b" bytes ", parts::table::memory_length(device));
     text(b"\n");
 }
 

@@ -1,7 +1,7 @@
 -- `answers::answer_number` meets its contract: each arm has the number that the definition has.
 -- By computation, once the answer is known; a stop has its own number.
 use borrow.Author.Needs.{needs}
-use Rattle.answers.specs.Numbers.{answerNumber}
+use Rattle.answers.specs.StopNumbers.{answerNumber}
 use Rattle.answers.proofs.answer_number.Statement.{statement}
 use Rattle.answers.proofs.answer_number.Tie as tie
 

@@ -1,7 +1,7 @@
 -- `answers::stop_number` meets its contract: each arm has the number that the definition has.
 -- By computation, once the stop is known.
 use borrow.Author.Needs.{needs}
-use Rattle.answers.specs.Numbers.{stopNumber}
+use Rattle.answers.specs.StopNumbers.{stopNumber}
 use Rattle.answers.proofs.stop_number.Statement.{statement}
 use Rattle.answers.proofs.stop_number.Tie as tie
 

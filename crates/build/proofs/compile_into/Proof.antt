@@ -4,7 +4,7 @@ use mathlib.Core.Path.{_∙_, sym}
 use Prim.Native.Nat.{_≤_}
 use native.Mathlib.Omega.{arith}
 use lib.ListN.{length, length-take}
-use Rattle.compiler.specs.Answer.{compiled-accepts}
+use Rattle.compiler.specs.Laws.CompilerAnswer.{compiled-accepts}
 use borrow.Author.Needs.{needs}
 use Rattle.build.proofs.compile_into.Statement.{statement}
 use Rattle.build.proofs.compile_into.Tie as tie

@@ -3,9 +3,9 @@
 use mathlib.Core.Path.{_∙_, refl, sym, ap}
 use borrow.Author.Needs.{needs}
 use denote.Ref.{now}
-use Rattle.layout.specs.Accepting.{accepted}
+use Rattle.layout.specs.Laws.AcceptedLayout.{accepted}
 use Rattle.compiler.specs.Compiled.{Compiled, compiledAfter}
-use Rattle.compiler.specs.Answer.{accepted-read, accepted-length, accepts-compiled, short-compiled}
+use Rattle.compiler.specs.Laws.CompilerAnswer.{accepted-read, accepted-length, accepts-compiled, short-compiled}
 use Rattle.compiler.proofs.compile.Statement.{statement}
 use Rattle.compiler.proofs.compile.Tie as tie
 

@@ -1,7 +1,7 @@
 -- `config::byte` meets its contract: a byte of the hunt, of a word, or none where the machine is stopped.
 -- By the contract of the phase's call, once the phase is known.
 use borrow.Author.Needs.{needs}
-use Rattle.config.specs.Bytes.{byte}
+use Rattle.config.specs.StreamBytes.{byte}
 use Rattle.config.proofs.byte.Statement.{statement}
 use Rattle.config.proofs.byte.Tie as tie
 

@@ -1,7 +1,7 @@
 -- `config::word` meets its contract: a whole word in each phase.
 -- By the contract of the phase's call, once the phase is known.
 use borrow.Author.Needs.{needs}
-use Rattle.config.specs.Words.{word}
+use Rattle.config.specs.DataWords.{word}
 use Rattle.config.proofs.word.Statement.{statement}
 use Rattle.config.proofs.word.Tie as tie
 

@@ -7,8 +7,8 @@ use native.Mathlib.Numerals.{add-one}
 use native.Mathlib.Omega.{arith}
 use lib.Pow.{shr-shr, shl-shr, pow-mono}
 use borrow.Author.Needs.{needs}
-use Rattle.crc16.specs.Register.{leaving, checkWord}
-use Rattle.crc16.specs.CheckWord.{leaving-lt, shl-suc}
+use Rattle.crc16.specs.CrcRegister.{leaving, checkWord}
+use Rattle.crc16.specs.Laws.CheckWord.{leaving-lt, shl-suc}
 use Rattle.crc16.proofs.check_word.Statement.{statement}
 use Rattle.crc16.proofs.check_word.Tie as tie
 

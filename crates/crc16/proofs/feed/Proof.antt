@@ -2,9 +2,9 @@
 -- The constant that it lends is the table of `entries`, by computation, and a law says that lookups in that one feed as `feed` does.
 use mathlib.Core.Path.{_∙_}
 use borrow.Author.Needs.{needs}
-use Rattle.crc16.specs.Register.{input, shift, shiftIn, feed}
-use Rattle.crc16.specs.Nibbles.{part, entry, entries}
-use Rattle.crc16.specs.Lookup.{feed-with-entries}
+use Rattle.crc16.specs.CrcRegister.{input, shift, shiftIn, feed}
+use Rattle.crc16.specs.NibbleTable.{part, entry, entries}
+use Rattle.crc16.specs.Laws.NibbleLookup.{feed-with-entries}
 use Rattle.crc16.proofs.feed.Statement.{statement}
 use Rattle.crc16.proofs.feed.Tie as tie
 

@@ -2,7 +2,7 @@
 -- The cast loses nothing, since what a lookup returns has sixteen bits, and so has the xor of four.
 use native.Mathlib.Omega.{arith}
 use lib.Bits.{xor-lt}
-use Rattle.crc16.specs.Nibbles.{feedWith}
+use Rattle.crc16.specs.NibbleTable.{feedWith}
 use Rattle.crc16.proofs.feed_with.Statement.{statement}
 use Rattle.crc16.proofs.feed_with.Tie as tie
 

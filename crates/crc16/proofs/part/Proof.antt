@@ -2,7 +2,7 @@
 -- By computation, once the definition is unfolded; every index is under 256, since the group is under 4.
 use mathlib.Core.Path.{refl}
 use borrow.Author.Needs.{needs}
-use Rattle.crc16.specs.Nibbles.{lookedUp}
+use Rattle.crc16.specs.NibbleTable.{lookedUp}
 use Rattle.crc16.proofs.part.Statement.{statement}
 use Rattle.crc16.proofs.part.Tie as tie
 

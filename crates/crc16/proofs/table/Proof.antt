@@ -1,8 +1,8 @@
 -- `crc16::table` meets its contract: the constant is the definition's table.
 -- By computation: antt works out all 256 entries of the definition.
 use mathlib.Core.Path.{refl}
-use Rattle.crc16.specs.Register.{input, shift, shiftIn, feed}
-use Rattle.crc16.specs.Nibbles.{part, entry, entries}
+use Rattle.crc16.specs.CrcRegister.{input, shift, shiftIn, feed}
+use Rattle.crc16.specs.NibbleTable.{part, entry, entries}
 use Rattle.crc16.proofs.table.Statement.{statement}
 use Rattle.crc16.proofs.table.Tie as tie
 

@@ -6,7 +6,7 @@ use native.Mathlib.Nat.{le-trans}
 use native.Mathlib.Omega.{arith}
 use lib.ListN.{length, length-take}
 use borrow.Author.Needs.{needs}
-use Rattle.loader.specs.Safety.{load-taken}
+use Rattle.loader.specs.Laws.LoadKeeps.{load-taken}
 use Rattle.load50.proofs.load_input.Statement.{statement}
 use Rattle.load50.proofs.load_input.Tie as tie
 

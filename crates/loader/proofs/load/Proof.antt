@@ -5,11 +5,11 @@ use mathlib.Core.Bool.{true}
 use borrow.Author.Needs.{needs}
 use borrow.Author.Tests.{not-true, not-false}
 use denote.Ref.{now}
-use Rattle.device.specs.Consistent.{consistent}
-use Rattle.parts.specs.Device.{memoryAt}
+use Rattle.record.specs.Consistency.{consistent}
+use Rattle.parts.specs.Table.{memoryAt}
 use Rattle.loader.specs.Load.{answerOf}
-use Rattle.loader.specs.Pieces.{load-accepted, load-inconsistent, load-wrong-memory}
-use Rattle.device.specs.declared.Device.{Device}
+use Rattle.loader.specs.Laws.Pieces.{load-accepted, load-inconsistent, load-wrong-memory}
+use Rattle.record.specs.declared.Record.{Record}
 use Rattle.loader.proofs.load.Statement.{statement}
 use Rattle.loader.proofs.load.Tie as tie
 
@@ -58,7 +58,7 @@ returns-3 c =
     let r = c .before .before .before .before .run .ensures in
     let e = c .before .before .before .before .before .before .if2 .left ∙ wanted (c .before .before .before .before .before .before .before) in
     rw (load-accepted (a .d) (now (a .memory)) (now (a .bytes)) (record { fits = fits (c .before .before .before .before .before .before .before .before .before); sized = e }))
-    (r .0, (c .answer-of .ensures ∙ ap (λ (d : Device). answerOf (d .phase)) (r .0), (r .1 .0, r .1 .1)))
+    (r .0, (c .answer-of .ensures ∙ ap (λ (d : Record). answerOf (d .phase)) (r .0), (r .1 .0, r .1 .1)))
 
 pub load-spec : {M : Type 1} → statement M
 load-spec =

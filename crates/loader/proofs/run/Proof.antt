@@ -8,12 +8,12 @@ use native.Mathlib.Omega.{arith}
 use lib.ListN.{length, drop, drop-of-length-le}
 use borrow.Author.Needs.{needs}
 use denote.Ref.{now}
-use Rattle.parts.specs.Device.{lengthAt}
+use Rattle.parts.specs.Table.{lengthAt}
 use Rattle.loader.specs.Run.{Ran, ran, after, run}
-use Rattle.loader.specs.Pieces.{stopped-run, after-zero, after-after}
-use Rattle.loader.specs.Fill.{device}
-use Rattle.loader.specs.Turn.{Turn}
-use Rattle.device.specs.declared.Device.{Device}
+use Rattle.loader.specs.Laws.Pieces.{stopped-run, after-zero, after-after}
+use Rattle.loader.specs.Inner.FillWords.{recordOf}
+use Rattle.loader.specs.Inner.Turn.{Turn}
+use Rattle.record.specs.declared.Record.{Record}
 use Rattle.loader.proofs.run.Statement.{statement}
 use Rattle.loader.proofs.run.Tie as tie
 
@@ -22,21 +22,21 @@ Inv-loop memory₀ bytes phase₀ control₀ frame₀ words i₀ memory phase co
     (i ≤ length bytes)
     × (length memory ≡ length memory₀)
     × (words ≡ lengthAt (control .device))
-    × (after i (run (device phase control frame) memory (drop i bytes)) ≡ run (device phase₀ control₀ frame₀) memory₀ bytes)
+    × (after i (run (recordOf phase control frame) memory (drop i bytes)) ≡ run (recordOf phase₀ control₀ frame₀) memory₀ bytes)
 
 abbrev μ-loop : tie.MeasureT-loop
 μ-loop memory₀ bytes phase₀ control₀ frame₀ words i₀ memory phase control frame i = length bytes - i
 
 -- a run that is over, by its parts
-ended : {d : Device} {m : List ℕ} {i : ℕ} {r : Ran} → after i (ran d m 0) ≡ r → (d ≡ r .device) × ((i ≡ r .taken) × (m ≡ r .memory))
-ended {i = i} e = (ap (λ (q : Ran). q .device) e, (sym (add-zero i) ∙ ap (λ (q : Ran). q .taken) e, ap (λ (q : Ran). q .memory) e))
+ended : {d : Record} {m : List ℕ} {i : ℕ} {r : Ran} → after i (ran d m 0) ≡ r → (d ≡ r .«record») × ((i ≡ r .taken) × (m ≡ r .memory))
+ended {i = i} e = (ap (λ (q : Ran). q .«record») e, (sym (add-zero i) ∙ ap (λ (q : Ran). q .taken) e, ap (λ (q : Ran). q .memory) e))
 
 -- what is left after a turn
-turned : {d e : Device} {m k s : List ℕ} {i n : ℕ} {r : Ran} → Turn d m e k s i n → after i (run d m (drop i s)) ≡ r → after (i + n) (run e k (drop (i + n) s)) ≡ r
+turned : {d e : Record} {m k s : List ℕ} {i n : ℕ} {r : Ran} → Turn d m e k s i n → after i (run d m (drop i s)) ≡ r → after (i + n) (run e k (drop (i + n) s)) ≡ r
 turned {i = i} {n = n} h inv = sym (after-after i n _) ∙ ap (after i) (sym (h .runs)) ∙ inv
 
 -- past the end nothing is left
-at-end : (d : Device) (m s : List ℕ) (i : ℕ) → length s ≤ i → run d m (drop i s) ≡ ran d m 0
+at-end : (d : Record) (m s : List ℕ) (i : ℕ) → length s ≤ i → run d m (drop i s) ≡ ran d m 0
 unfolding run
 at-end d m s i h = rw (drop-of-length-le s h)
 

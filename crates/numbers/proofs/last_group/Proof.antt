@@ -8,7 +8,7 @@ use lib.Dec.{eqb}
 use borrow.Author.Needs.{needs}
 use borrow.Author.Tests.{eq-eqb, ne-eqb}
 use Rattle.numbers.specs.Number.{lastGroup}
-use Rattle.numbers.specs.Groups.{scaled}
+use Rattle.numbers.specs.Inner.Groups.{scaled}
 use Rattle.numbers.proofs.last_group.Statement.{statement}
 use Rattle.numbers.proofs.last_group.Tie as tie
 

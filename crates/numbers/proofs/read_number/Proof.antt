@@ -7,12 +7,12 @@ use native.Mathlib.Omega.{arith}
 use lib.ListN.{length, getD}
 use borrow.Author.Needs.{needs}
 use denote.Ref.{now}
-use Rattle.numbers.specs.Groups.{Reading, reading-start, reading-high, reading-last, reading-more, reading-weight, reading-end}
+use Rattle.numbers.specs.Inner.Groups.{GroupsRead, reading-start, reading-high, reading-last, reading-more, reading-weight, reading-end}
 use Rattle.numbers.proofs.read_number.Statement.{statement}
 use Rattle.numbers.proofs.read_number.Tie as tie
 
 abbrev Inv-loop : tie.InvT-loop
-Inv-loop bytes at i₀ low₀ weight₀ i low weight = Reading bytes at i low weight
+Inv-loop bytes at i₀ low₀ weight₀ i low weight = GroupsRead bytes at i low weight
 
 abbrev μ-loop : tie.MeasureT-loop
 μ-loop bytes at i₀ low₀ weight₀ i low weight = length bytes - i

@@ -12,16 +12,18 @@ use lib.Seq.{length-take-le}
 use borrow.Author.Needs.{needs}
 use borrow.Author.Tests.{not-true, not-false}
 use denote.Ref.{now}
-use Rattle.parts.specs.Bytes.{AreBytes, all-bytes}
-use Rattle.parts.specs.Device.{memoryAt}
+use Rattle.parts.specs.Laws.WordBytes.{AreBytes, all-bytes}
+use Rattle.parts.specs.Table.{memoryAt}
 use Rattle.answers.specs.declared.change.Change.the-variants as Change
 use Rattle.answers.specs.declared.layout.Verdict.the-variants as Verdict
-use Rattle.device.specs.Consistent.{consistent}
+use Rattle.record.specs.Consistency.{consistent}
 use Rattle.compiler.specs.Compiled.{Compiled, compiled}
-use Rattle.compiler.specs.Answer.{compiled-accepts, refused-keeps}
-use Rattle.reconfigure.specs.Demand3.{Waits}
-use Rattle.reconfigure.specs.Reconfigured.{isHunting, Reconfigured, reconfiguredAfter, reconfigured, inconsistent-so, wrong-memory-so, not-hunting-so, compiled-so, refused-so}
-use Rattle.reconfigure.specs.Promise.{Promised, waits, accepted-so, promised}
+use Rattle.compiler.specs.Laws.CompilerAnswer.{compiled-accepts, refused-keeps}
+use Rattle.reconfigure.specs.Laws.Demand3.{AwaitsSync}
+use Rattle.reconfigure.specs.Reconfigured.{isHunting, Reconfigured, reconfiguredAfter, reconfigured}
+use Rattle.reconfigure.specs.Laws.AnswerCases.{inconsistent-so, wrong-memory-so, not-hunting-so, compiled-so, refused-so}
+use Rattle.reconfigure.specs.Promise.{Promised}
+use Rattle.reconfigure.specs.Laws.PromiseKept.{awaits-sync, accepted-so, promised}
 use Rattle.reconfigure.proofs.reconfigure.Statement.{statement}
 use Rattle.reconfigure.proofs.reconfigure.Tie as tie
 
@@ -29,25 +31,25 @@ use Rattle.reconfigure.proofs.reconfigure.Tie as tie
 
 module _ (c : tie.After-shared-slice-known) where
   abbrev whole : Reconfigured
-  whole = let a = c .before .before .args in reconfigured (a .device) (now (a .memory)) (a .range) (now (a .layout)) (now (a .output))
+  whole = let a = c .before .before .args in reconfigured (a .«record») (now (a .memory)) (a .range) (now (a .layout)) (now (a .output))
 
   abbrev written : Compiled
-  written = let a = c .before .before .args in compiled (a .device .control .device) (a .range) (now (a .layout)) (now (a .output))
+  written = let a = c .before .before .args in compiled (a .«record» .control .device) (a .range) (now (a .layout)) (now (a .output))
 
   -- the layout's elements are bytes, and the frame buffer has its length
   bytes : AreBytes (now (c .before .before .args .layout))
   bytes = all-bytes (now (c .before .before .args .layout)) (λ i. omega (arith, c .shared-slice-known .given i))
 
-  full : length (c .before .before .args .device .frame) ≡ 213
+  full : length (c .before .before .args .«record» .frame) ≡ 213
   full = search needs
 
   -- what is to be shown, of the whole by its parts
   told : (x : Reconfigured) → whole ≡ x
-      → (x .change ≡ whole .change) × ((x .device ≡ whole .device) × ((x .memory ≡ whole .memory) × ((x .output ≡ whole .output)
-      × (let a = c .before .before .args in Promised (a .range) (now (a .layout)) (a .device) (now (a .memory)) (x .change) (x .device) (x .memory)))))
+      → (x .change ≡ whole .change) × ((x .«record» ≡ whole .«record») × ((x .memory ≡ whole .memory) × ((x .output ≡ whole .output)
+      × (let a = c .before .before .args in Promised (a .range) (now (a .layout)) (a .«record») (now (a .memory)) (x .change) (x .«record») (x .memory)))))
   told x e =
       let a = c .before .before .args in
-      rw (← e) (refl, (refl, (refl, (refl, promised (a .device) (now (a .memory)) (a .range) (now (a .layout)) (now (a .output)) bytes full))))
+      rw (← e) (refl, (refl, (refl, (refl, promised (a .«record») (now (a .memory)) (a .range) (now (a .layout)) (now (a .output)) bytes full))))
 
 -- ---- past each test
 
@@ -55,38 +57,38 @@ abbrev entry : tie.Else1 → tie.After-shared-slice-known
 entry c = c .before .before .before .before
 
 -- past the first the record is consistent
-fits : (c : tie.Else1) → let e = entry c .before .before .args .device in consistent (e .phase) (e .control) ≡ true
+fits : (c : tie.Else1) → let e = entry c .before .before .args .«record» in consistent (e .phase) (e .control) ≡ true
 fits c = sym (c .before .consistent .ensures) ∙ not-false _ (c .if1 .left)
 
 -- the length that the second compares with
-wanted : (c : tie.After-value-of) → c .value-of .result ≡ memoryAt (entry (c .before .before) .before .before .args .device .control .device)
+wanted : (c : tie.After-value-of) → c .value-of .result ≡ memoryAt (entry (c .before .before) .before .before .args .«record» .control .device)
 wanted c = rw (c .before .memory-length .ensures) at (c .value-of .ensures)
 
 abbrev entry2 : tie.Else2 → tie.After-shared-slice-known
 entry2 c = entry (c .before .before .before)
 
 -- past the second the memory has that length
-sized : (c : tie.Else2) → let a = entry2 c .before .before .args in length (now (a .memory)) ≡ memoryAt (a .device .control .device)
+sized : (c : tie.Else2) → let a = entry2 c .before .before .args in length (now (a .memory)) ≡ memoryAt (a .«record» .control .device)
 sized c = c .if2 .left ∙ wanted (c .before)
 
 abbrev entry3 : tie.Else3 → tie.After-shared-slice-known
 entry3 c = entry2 (c .before .before)
 
 -- past the third the record waits for sync
-hunts : (c : tie.Else3) → isHunting (entry3 c .before .before .args .device .phase) ≡ true
+hunts : (c : tie.Else3) → isHunting (entry3 c .before .before .args .«record» .phase) ≡ true
 hunts c = sym (c .before .is-hunting .ensures) ∙ not-false _ (c .if3 .left)
 
-waiting : (c : tie.Else3) → let a = entry3 c .before .before .args in Waits (a .device .control .device) (a .device) (now (a .memory))
+waiting : (c : tie.Else3) → let a = entry3 c .before .before .args in AwaitsSync (a .«record» .control .device) (a .«record») (now (a .memory))
 waiting c =
     let a = entry3 c .before .before .args in
-    waits (a .device) (now (a .memory)) (a .range) (now (a .layout)) (now (a .output)) (bytes (entry3 c)) (full (entry3 c)) (fits (c .before .before .before .before .before)) (sized (c .before .before)) (hunts c)
+    awaits-sync (a .«record») (now (a .memory)) (a .range) (now (a .layout)) (now (a .output)) (bytes (entry3 c)) (full (entry3 c)) (fits (c .before .before .before .before .before)) (sized (c .before .before)) (hunts c)
 
 -- and the answer is the compiler's
 judged : (c : tie.Else3)
-    → let a = entry3 c .before .before .args in whole (entry3 c) ≡ reconfiguredAfter (a .device) (now (a .memory)) (a .range) (now (a .layout)) (now (a .output)) (written (entry3 c) .verdict)
+    → let a = entry3 c .before .before .args in whole (entry3 c) ≡ reconfiguredAfter (a .«record») (now (a .memory)) (a .range) (now (a .layout)) (now (a .output)) (written (entry3 c) .verdict)
 judged c =
     let a = entry3 c .before .before .args in
-    compiled-so (a .device) (now (a .memory)) (a .range) (now (a .layout)) (now (a .output)) (fits (c .before .before .before .before .before)) (sized (c .before .before)) (hunts c)
+    compiled-so (a .«record») (now (a .memory)) (a .range) (now (a .layout)) (now (a .output)) (fits (c .before .before .before .before .before)) (sized (c .before .before)) (hunts c)
 
 -- ---- where the compiler accepts
 
@@ -101,7 +103,7 @@ module _ (c : tie.After-verdict) where
   room : c .verdict .given .0 .0 ≤ length (c .before .before .before .before .compile .last .1 .1 .1 .0)
   room =
       let a = entry4 .before .before .args in
-      rw (c .before .before .before .before .compile .kept .1 .1 .1 .0) (compiled-accepts (a .device .control .device) _ (a .range) (now (a .layout)) (now (a .output)) accepts .1)
+      rw (c .before .before .before .before .compile .kept .1 .1 .1 .0) (compiled-accepts (a .«record» .control .device) _ (a .range) (now (a .layout)) (now (a .output)) accepts .1)
 
 consistent-requires : tie.Need-consistent-requires
 consistent-requires c κs = search needs
@@ -114,7 +116,7 @@ returns c =
     let s = c .before .before .before .before .before in
     let a = s .before .before .args in
     rw (c .answered .ensures .0, c .answered .ensures .1)
-    (told s _ (inconsistent-so (a .device) (now (a .memory)) (a .range) (now (a .layout)) (now (a .output)) (sym (c .before .before .consistent .ensures) ∙ not-true _ (c .before .if1 .taken))))
+    (told s _ (inconsistent-so (a .«record») (now (a .memory)) (a .range) (now (a .layout)) (now (a .output)) (sym (c .before .before .consistent .ensures) ∙ not-true _ (c .before .if1 .taken))))
 
 memory-length-requires : tie.Need-memory-length-requires
 memory-length-requires c κs = search needs
@@ -133,7 +135,7 @@ returns-2 c =
     let s = entry (c .before .before .before .before) in
     let a = s .before .before .args in
     rw (c .answered2 .ensures .0, c .answered2 .ensures .1)
-    (told s _ (wrong-memory-so (a .device) (now (a .memory)) (a .range) (now (a .layout)) (now (a .output)) (fits (c .before .before .before .before))
+    (told s _ (wrong-memory-so (a .«record») (now (a .memory)) (a .range) (now (a .layout)) (now (a .output)) (fits (c .before .before .before .before))
     (rw (wanted (c .before .before)) at (c .before .if2 .taken))))
 
 is-hunting-requires : tie.Need-is-hunting-requires
@@ -147,7 +149,7 @@ returns-3 c =
     let s = entry2 (c .before .before .before) in
     let a = s .before .before .args in
     rw (c .answered3 .ensures .0, c .answered3 .ensures .1)
-    (told s _ (not-hunting-so (a .device) (now (a .memory)) (a .range) (now (a .layout)) (now (a .output)) (fits (c .before .before .before .before .before .before))
+    (told s _ (not-hunting-so (a .«record») (now (a .memory)) (a .range) (now (a .layout)) (now (a .output)) (fits (c .before .before .before .before .before .before))
     (sized (c .before .before .before)) (sym (c .before .before .is-hunting .ensures) ∙ not-true _ (c .before .if3 .taken))))
 
 compile-requires : tie.Need-compile-requires
@@ -183,9 +185,9 @@ returns-4 c =
     let a = s .before .before .args in
     let l = c .before .before .before .before .load in
     let made : whole s
-    ≡ record { device = l .result .device; memory = l .last .1 .0; output = k .compile .last .1 .1 .1 .0; change = Change.Judged (Verdict.Accepted (v .verdict .given .0 .0)) }
+    ≡ record { «record» = l .result .«record»; memory = l .last .1 .0; output = k .compile .last .1 .1 .1 .0; change = Change.Judged (Verdict.Accepted (v .verdict .given .0 .0)) }
     = rw (l .ensures .0, l .ensures .1 .1 .1, k .compile .ensures .1)
-    (judged t ∙ accepted-so (a .device) (now (a .memory)) (a .range) (now (a .layout)) (now (a .output)) (bytes s) (full s) _ (waiting t) (accepts v)) in
+    (judged t ∙ accepted-so (a .«record») (now (a .memory)) (a .range) (now (a .layout)) (now (a .output)) (bytes s) (full s) _ (waiting t) (accepts v)) in
     rw (c .answered4 .ensures .0, c .answered4 .ensures .1) (told s _ made)
 
 answered-requires-5 : tie.Need-answered-requires-5
@@ -207,9 +209,9 @@ returns-5 c =
       c .answered5 .ensures .1,
       k .compile .ensures .0,
       k .compile .ensures .1,
-      refused-keeps (a .device .control .device) (a .range) (now (a .layout)) (now (a .output)) refused,
+      refused-keeps (a .«record» .control .device) (a .range) (now (a .layout)) (now (a .output)) refused,
     )
-    (told s _ (judged t ∙ refused-so (a .device) (now (a .memory)) (a .range) (now (a .layout)) (now (a .output)) _ refused))
+    (told s _ (judged t ∙ refused-so (a .«record») (now (a .memory)) (a .range) (now (a .layout)) (now (a .output)) _ refused))
 
 pub reconfigure-spec : {M : Type 1} → statement M
 reconfigure-spec =

@@ -4,9 +4,9 @@ use mathlib.Core.Path.{_≡_, _∙_, refl, sym}
 use borrow.Author.Needs.{needs}
 use borrow.Author.Tests.{eq-eqb, ne-eqb}
 use denote.Ref.{now}
-use Rattle.parts.specs.Device.{memoryAt}
+use Rattle.parts.specs.Table.{memoryAt}
 use Rattle.reference.specs.Applied.{appliedAfter}
-use Rattle.layout.specs.Accepting.{isRead, accepted}
+use Rattle.layout.specs.Laws.AcceptedLayout.{isRead, accepted}
 use Rattle.reference.proofs.apply.Statement.{statement}
 use Rattle.reference.proofs.apply.Tie as tie
 

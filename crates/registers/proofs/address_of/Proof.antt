@@ -1,7 +1,7 @@
 -- `registers::address_of` meets its contract: the address of each register.
 -- By computation, once the register is known.
 use borrow.Author.Needs.{needs}
-use Rattle.registers.specs.Addresses.{addressOf}
+use Rattle.registers.specs.RegisterAddresses.{addressOf}
 use Rattle.registers.proofs.address_of.Statement.{statement}
 use Rattle.registers.proofs.address_of.Tie as tie
 

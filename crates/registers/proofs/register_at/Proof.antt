@@ -1,7 +1,7 @@
 -- `registers::register_at` meets its contract: the register at each address.
 -- By computation, once the address is known, or known to be none of the eleven.
 use borrow.Author.Tests.{ne-eqb}
-use Rattle.registers.specs.Addresses.{registerAt}
+use Rattle.registers.specs.RegisterAddresses.{registerAt}
 use Rattle.registers.proofs.register_at.Statement.{statement}
 use Rattle.registers.proofs.register_at.Tie as tie
 

@@ -2,7 +2,7 @@
 -- From what the three calls ensure.
 use mathlib.Core.Path.{_∙_, ap}
 use borrow.Author.Needs.{needs}
-use Rattle.answers.specs.Refusals.{verdictNumber, verdictValue}
+use Rattle.answers.specs.LayoutRefusals.{verdictNumber, verdictValue}
 use Rattle.seamwillow.proofs.sw_check.Statement.{statement}
 use Rattle.seamwillow.proofs.sw_check.Tie as tie
 

@@ -2,7 +2,7 @@
 -- By computation, once the answer is known.
 use mathlib.Core.Path.{_∙_, refl, sym}
 use borrow.Author.Needs.{needs}
-use Rattle.parts.specs.Address.{addressTold}
+use Rattle.parts.specs.FrameAddress.{addressTold}
 use Rattle.seamwillow.proofs.sw_frame_address.Statement.{statement}
 use Rattle.seamwillow.proofs.sw_frame_address.Tie as tie
 

@@ -2,7 +2,7 @@
 -- By computation, once the answer is known.
 use mathlib.Core.Path.{_∙_, refl, sym}
 use borrow.Author.Needs.{needs}
-use Rattle.seamwillow.specs.Told.{numberTold}
+use Rattle.seamwillow.specs.NumberTold.{numberTold}
 use Rattle.seamwillow.proofs.sw_frame_number.Statement.{statement}
 use Rattle.seamwillow.proofs.sw_frame_number.Tie as tie
 

@@ -3,18 +3,18 @@
 use mathlib.Core.Path.{_≡_, _∙_, refl, ap}
 use borrow.Author.Tests.{not-true, not-false}
 use denote.Ref.{now}
-use Rattle.answers.specs.Numbers.{answerNumber}
+use Rattle.answers.specs.StopNumbers.{answerNumber}
 use Rattle.loader.specs.Load.{load}
-use Rattle.device.specs.declared.Device.{Device}
-use Rattle.image.specs.Image.{encoded}
-use Rattle.image.specs.Compare.{accepted}
-use Rattle.seamwillow.specs.Records.{compared, loaded-refused, loaded-done}
+use Rattle.record.specs.declared.Record.{Record}
+use Rattle.record_image.specs.Image.{encoded}
+use Rattle.record_image.specs.Compare.{acceptedImage}
+use Rattle.seamwillow.specs.Laws.RefusedCalls.{compared, loaded-refused, loaded-done}
 use borrow.Author.Needs.{needs}
 use Rattle.seamwillow.proofs.sw_load.Statement.{statement}
 use Rattle.seamwillow.proofs.sw_load.Tie as tie
 
 -- what `matches` answers of the decoded record is whether the image is accepted
-judged : (c : tie.After-matches) → accepted (now (c .before .before .before .before .before .before .before .args .state)) ≡ c .matches .result
+judged : (c : tie.After-matches) → acceptedImage (now (c .before .before .before .before .before .before .before .args .state)) ≡ c .matches .result
 judged c = compared _ _ _ (c .before .before .decode .ensures) (c .matches .ensures)
 
 decode-requires : tie.Need-decode-requires
@@ -53,7 +53,7 @@ returns-2 c =
     let done = c .before .before .before .before .before .before .before .before .load .ensures in
     rw (loaded-done (now (a .state)) (now (a .memory)) (now (a .stream)) (judged (c .before .before .before .before .before .before .before .before .before .before .before) ∙ not-false _ (c .before .before .before .before .before .before .before .before .before .before .if1 .left)), ← device) (
       c .answer-number .ensures ∙ ap answerNumber (done .1 .0),
-      (c .before .before .before .encode .ensures ∙ ap (λ (d : Device). encoded d (now (a .state))) (done .0), (done .1 .1 .1, done .1 .1 .0)),
+      (c .before .before .before .encode .ensures ∙ ap (λ (d : Record). encoded d (now (a .state))) (done .0), (done .1 .1 .1, done .1 .1 .0)),
     )
 
 pub sw-load-spec : {M : Type 1} → statement M

@@ -2,7 +2,7 @@
 -- From what the calls ensure.
 use mathlib.Core.Path.{_∙_, ap}
 use borrow.Author.Needs.{needs}
-use Rattle.parts.specs.Device.{partRefusal, valueOf}
+use Rattle.parts.specs.Table.{partRefusal, valueOf}
 use Rattle.seamwillow.proofs.sw_part.Statement.{statement}
 use Rattle.seamwillow.proofs.sw_part.Tie as tie
 

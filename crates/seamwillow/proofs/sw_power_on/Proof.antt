@@ -2,10 +2,10 @@
 -- By the law of each of the two cases, from what the calls ensure.
 use mathlib.Core.Path.{_∙_, refl, ap}
 use denote.Ref.{now}
-use Rattle.answers.specs.Numbers.{answerNumber}
-use Rattle.device.specs.declared.Device.{Device}
-use Rattle.image.specs.Image.{encoded}
-use Rattle.seamwillow.specs.Records.{powered-refused, powered-done}
+use Rattle.answers.specs.StopNumbers.{answerNumber}
+use Rattle.record.specs.declared.Record.{Record}
+use Rattle.record_image.specs.Image.{encoded}
+use Rattle.seamwillow.specs.Laws.RefusedCalls.{powered-refused, powered-done}
 use borrow.Author.Needs.{needs}
 use Rattle.seamwillow.proofs.sw_power_on.Statement.{statement}
 use Rattle.seamwillow.proofs.sw_power_on.Tie as tie
@@ -35,7 +35,7 @@ returns-2 c =
     let a = c .before .before .before .before .before .before .before .before .before .before .before .before .before .args in
     let on = c .before .before .before .before .before .before .before .before .power-on .ensures in
     rw (powered-done (a .device) (now (a .state)) (now (a .memory)) (c .before .before .before .before .before .before .before .before .before .before .if1 .left))
-    (c .answer-number .ensures ∙ ap answerNumber (on .1 .0), (c .before .before .before .encode .ensures ∙ ap (λ (d : Device). encoded d (now (a .state))) (on .0), on .1 .1))
+    (c .answer-number .ensures ∙ ap answerNumber (on .1 .0), (c .before .before .before .encode .ensures ∙ ap (λ (d : Record). encoded d (now (a .state))) (on .0), on .1 .1))
 
 pub sw-power-on-spec : {M : Type 1} → statement M
 sw-power-on-spec =

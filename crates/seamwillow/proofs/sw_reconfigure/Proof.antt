@@ -5,16 +5,16 @@ use borrow.Author.Tests.{not-true, not-false}
 use borrow.Author.Needs.{needs}
 use denote.Ref.{now}
 use Rattle.answers.specs.Changes.{changeNumber, changeValue}
-use Rattle.device.specs.declared.Device.{Device}
-use Rattle.layout.specs.Range.{range}
-use Rattle.image.specs.Image.{encoded}
-use Rattle.image.specs.Compare.{accepted}
-use Rattle.seamwillow.specs.Records.{compared, reconfigured-refused, reconfigured-done}
+use Rattle.record.specs.declared.Record.{Record}
+use Rattle.layout.specs.Ownership.{range}
+use Rattle.record_image.specs.Image.{encoded}
+use Rattle.record_image.specs.Compare.{acceptedImage}
+use Rattle.seamwillow.specs.Laws.RefusedCalls.{compared, reconfigured-refused, reconfigured-done}
 use Rattle.seamwillow.proofs.sw_reconfigure.Statement.{statement}
 use Rattle.seamwillow.proofs.sw_reconfigure.Tie as tie
 
 -- what `matches` answers of the decoded record is whether the image is accepted
-judged : (c : tie.After-matches) → accepted (now (c .before .before .before .before .before .before .before .before .args .state)) ≡ c .matches .result
+judged : (c : tie.After-matches) → acceptedImage (now (c .before .before .before .before .before .before .before .before .args .state)) ≡ c .matches .result
 judged c = compared _ _ _ (c .before .before .decode .ensures) (c .matches .ensures)
 
 decode-requires : tie.Need-decode-requires
@@ -61,7 +61,7 @@ returns-2 c =
     rw (reconfigured-done (now (a .state)) (now (a .memory)) (range (a .first) (a .count)) (now (a .layout)) (now (a .out)) (judged (c .before .before .before .before .before .before .before .before .before .before .before .before .before .before .before) ∙ not-false _ (c .before .before .before .before .before .before .before .before .before .before .before .before .before .before .if1 .left)), ← device) (
       c .change-number .ensures ∙ ap changeNumber (done .0),
       (
-        c .before .before .before .before .encode .ensures ∙ ap (λ (d : Device). encoded d (now (a .state))) (done .1 .0),
+        c .before .before .before .before .encode .ensures ∙ ap (λ (d : Record). encoded d (now (a .state))) (done .1 .0),
         (done .1 .1 .0, (done .1 .1 .1 .0, c .before .change-value .ensures ∙ ap changeValue (done .0))),
       ),
     )

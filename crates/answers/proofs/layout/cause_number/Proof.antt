@@ -1,7 +1,7 @@
 -- `answers::layout::cause_number` meets its contract: each arm has the number that the definition has.
 -- By computation, once the cause is known.
 use borrow.Author.Needs.{needs}
-use Rattle.answers.specs.Refusals.{causeNumber}
+use Rattle.answers.specs.LayoutRefusals.{causeNumber}
 use Rattle.answers.proofs.layout.cause_number.Statement.{statement}
 use Rattle.answers.proofs.layout.cause_number.Tie as tie
 

@@ -1,7 +1,7 @@
 -- `answers::layout::verdict_number` meets its contract: each arm has the number that the definition has.
 -- By computation, once the verdict is known; a refusal has its cause's number.
 use borrow.Author.Needs.{needs}
-use Rattle.answers.specs.Refusals.{verdictNumber}
+use Rattle.answers.specs.LayoutRefusals.{verdictNumber}
 use Rattle.answers.proofs.layout.verdict_number.Statement.{statement}
 use Rattle.answers.proofs.layout.verdict_number.Tie as tie
 

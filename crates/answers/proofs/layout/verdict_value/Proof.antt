@@ -1,7 +1,7 @@
 -- `answers::layout::verdict_value` meets its contract: each arm tells the value that the definition has.
 -- By computation, once the verdict is known.
 use borrow.Author.Needs.{needs}
-use Rattle.answers.specs.Refusals.{verdictValue}
+use Rattle.answers.specs.LayoutRefusals.{verdictValue}
 use Rattle.answers.proofs.layout.verdict_value.Statement.{statement}
 use Rattle.answers.proofs.layout.verdict_value.Tie as tie
 

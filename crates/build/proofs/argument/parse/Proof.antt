@@ -6,7 +6,7 @@ use native.Mathlib.Omega.{arith}
 use lib.ListN.{length, getD, drop}
 use borrow.Author.Needs.{needs}
 use denote.Ref.{now}
-use Rattle.build.specs.Decimal.{digitsFrom, parsed, unfit-low, unfit-high, unfit-large, fit, parsed-none, parsed-starts, parsed-ends, parsed-goes, parsed-done}
+use Rattle.build.specs.Inner.Decimal.{digitsFrom, parsed, unfit-low, unfit-high, unfit-large, fit, parsed-none, parsed-starts, parsed-ends, parsed-goes, parsed-done}
 use Rattle.build.proofs.argument.parse.Statement.{statement}
 use Rattle.build.proofs.argument.parse.Tie as tie
 

@@ -5,7 +5,7 @@ use Prim.Native.Nat.{_+_, _-_, _≤_}
 use native.Mathlib.Omega.{arith}
 use lib.ListN.{length}
 use borrow.Author.Needs.{needs}
-use Rattle.build.specs.Input.{Within}
+use Rattle.build.specs.Inner.Input.{Within}
 use Rattle.build.proofs.input.read_input.Statement.{statement}
 use Rattle.build.proofs.input.read_input.Tie as tie
 

@@ -1,7 +1,7 @@
 -- `compiler::emit::address_told` meets its contract: the address, 0 where there is none.
 -- By computation, once the case is known.
 use borrow.Author.Needs.{needs}
-use Rattle.parts.specs.Address.{addressTold}
+use Rattle.parts.specs.FrameAddress.{addressTold}
 use Rattle.compiler.proofs.emit.address_told.Statement.{statement}
 use Rattle.compiler.proofs.emit.address_told.Tie as tie
 

@@ -2,9 +2,9 @@
 -- From what the write ensures, once the address is known.
 use mathlib.Core.Path.{_∙_, ap}
 use borrow.Author.Needs.{needs}
-use Rattle.parts.specs.Address.{addressTold}
-use Rattle.stream.specs.Length.{size}
-use Rattle.compiler.specs.Writing.{once}
+use Rattle.parts.specs.FrameAddress.{addressTold}
+use Rattle.stream.specs.Laws.StreamLength.{size}
+use Rattle.compiler.specs.Inner.PacketWriting.{once}
 use Rattle.compiler.proofs.emit.put_address.Statement.{statement}
 use Rattle.compiler.proofs.emit.put_address.Tie as tie
 

@@ -7,12 +7,12 @@ use native.Mathlib.Omega.{arith}
 use lib.ListN.{length}
 use borrow.Author.Needs.{needs}
 use denote.Ref.{now}
-use Rattle.layout.specs.Targets.{numbersAt, numbers-none, numbers-value, numbers-refused}
-use Rattle.stream.specs.Packets.{Packet}
+use Rattle.layout.specs.Inner.TargetNumbers.{numbersAt, numbers-none, numbers-value, numbers-refused}
+use Rattle.stream.specs.StreamPackets.{Packet}
 use Rattle.stream.specs.Stream.{toFrame, further}
-use Rattle.stream.specs.Length.{size}
-use Rattle.compiler.specs.Writing.{Room, first-room, written-length, joined, joined-room, next-room, nothing, once, Remains}
-use Rattle.compiler.specs.Stepping.{further-first, further-none}
+use Rattle.stream.specs.Laws.StreamLength.{size}
+use Rattle.compiler.specs.Inner.PacketWriting.{Room, first-room, written-length, joined, joined-room, next-room, nothing, once, Remains}
+use Rattle.compiler.specs.Inner.StepPackets.{further-first, further-none}
 use Rattle.compiler.proofs.emit.put_further.Statement.{statement}
 use Rattle.compiler.proofs.emit.put_further.Tie as tie
 

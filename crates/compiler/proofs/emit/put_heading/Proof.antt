@@ -5,13 +5,13 @@ use mathlib.Core.List.{[], _∷_}
 use native.Mathlib.Omega.{arith}
 use borrow.Author.Needs.{needs}
 use denote.Ref.{now}
-use Rattle.parts.specs.Device.{idcodeAt, lengthAt}
-use Rattle.parts.specs.Figures.{figures}
+use Rattle.parts.specs.Table.{idcodeAt, lengthAt}
+use Rattle.parts.specs.Laws.Figures.{figures}
 use Rattle.stream.specs.Stream.{heading}
-use Rattle.stream.specs.Length.{size}
-use Rattle.compiler.specs.Emitted.{put-append}
-use Rattle.compiler.specs.Writing.{penAt, Written, written-length, joined, once}
-use Rattle.compiler.specs.Whole.{synced, synced-length}
+use Rattle.stream.specs.Laws.StreamLength.{size}
+use Rattle.compiler.specs.Inner.Emitted.{put-append}
+use Rattle.compiler.specs.Inner.PacketWriting.{cursorAt, Written, written-length, joined, once}
+use Rattle.compiler.specs.Inner.WholeStream.{synced, synced-length}
 use Rattle.compiler.proofs.emit.put_heading.Statement.{statement}
 use Rattle.compiler.proofs.emit.put_heading.Tie as tie
 
@@ -25,7 +25,7 @@ part-code c = rw (c .before .idcode .ensures) at (c .value-of2 .ensures)
 begun : (c : tie.After-put-word2) → c .put-word2 .last .0 ≡ synced (now (c .before .before .before .before .before .before .before .args .output))
 begun c = c .put-word2 .ensures ∙ rw (c .before .before .before .before .put-word .ensures) (put-append (now (c .before .before .before .before .before .before .before .args .output)) 0 (0xFFFFFFFF ∷ []) (0xAA995566 ∷ []))
 
-wrote : (c : tie.After-put-write2) → let a = c .before .before .before .before .before .before .before .before .before .before .before .before .before .before .before .before .before .before .before .before .before .before .before .args in Written (synced (now (a .output))) (penAt 8 0) (heading (a .device)) (c .put-write2 .last .1 .0) (c .put-write2 .result)
+wrote : (c : tie.After-put-write2) → let a = c .before .before .before .before .before .before .before .before .before .before .before .before .before .before .before .before .before .before .before .before .before .before .before .args in Written (synced (now (a .output))) (cursorAt 8 0) (heading (a .device)) (c .put-write2 .last .1 .0) (c .put-write2 .result)
 unfolding size
 wrote c =
     rw (← begun (c .before .before .before .before .before .before .before .before .before .before .before .before .before .before .before .before), ← part-length (c .before .before .before .before .before .before .before .before), ← part-code (c .before .before))

@@ -5,12 +5,12 @@ use mathlib.Core.List.{List, _∷_}
 use Prim.Native.Nat.{_-_}
 use borrow.Author.Needs.{needs}
 use denote.Ref.{now}
-use Rattle.layout.specs.Targets.{numbersAt, numbers-value, numbers-refused}
-use Rattle.stream.specs.Packets.{Packet}
+use Rattle.layout.specs.Inner.TargetNumbers.{numbersAt, numbers-value, numbers-refused}
+use Rattle.stream.specs.StreamPackets.{Packet}
 use Rattle.stream.specs.Stream.{toFrame, further, spreadPackets}
-use Rattle.stream.specs.Length.{size}
-use Rattle.compiler.specs.Writing.{Room, first-room, joined, joined-room, next-room, nothing, once}
-use Rattle.compiler.specs.Stepping.{spread-first, spread-none}
+use Rattle.stream.specs.Laws.StreamLength.{size}
+use Rattle.compiler.specs.Inner.PacketWriting.{Room, first-room, joined, joined-room, next-room, nothing, once}
+use Rattle.compiler.specs.Inner.StepPackets.{spread-first, spread-none}
 use Rattle.compiler.proofs.emit.put_spread.Statement.{statement}
 use Rattle.compiler.proofs.emit.put_spread.Tie as tie
 

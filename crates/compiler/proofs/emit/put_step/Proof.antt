@@ -8,15 +8,15 @@ use native.Mathlib.Omega.{arith}
 use lib.ListN.{length, drop, replicate}
 use borrow.Author.Needs.{needs}
 use denote.Ref.{now}
-use Rattle.parts.specs.Device.{lengthAt, countAt}
-use Rattle.parts.specs.Figures.{length-fits}
-use Rattle.layout.specs.Targets.{numbersAt}
-use Rattle.layout.specs.First.{StepBytes}
-use Rattle.stream.specs.Packets.{Packet}
+use Rattle.parts.specs.Table.{lengthAt, countAt}
+use Rattle.parts.specs.Laws.Figures.{length-fits}
+use Rattle.layout.specs.Inner.TargetNumbers.{numbersAt}
+use Rattle.layout.specs.Inner.FirstStep.{StepBytes}
+use Rattle.stream.specs.StreamPackets.{Packet}
 use Rattle.stream.specs.Stream.{wordsFrom, toFrame, spreadPackets}
-use Rattle.stream.specs.Length.{size}
-use Rattle.compiler.specs.Writing.{Room, first-room, Written, joined, joined-room, next-room, nothing, once, frames-size, frames-once}
-use Rattle.compiler.specs.Stepping.{StepCount, write-packets, multi-packets, no-packets, few-words}
+use Rattle.stream.specs.Laws.StreamLength.{size}
+use Rattle.compiler.specs.Inner.PacketWriting.{Room, first-room, Written, joined, joined-room, next-room, nothing, once, frames-size, frames-once}
+use Rattle.compiler.specs.Inner.StepPackets.{StepCount, write-packets, multi-packets, no-packets, few-words}
 use Rattle.compiler.proofs.emit.put_step.Statement.{statement}
 use Rattle.compiler.proofs.emit.put_step.Tie as tie
 

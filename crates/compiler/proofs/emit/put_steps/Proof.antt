@@ -8,15 +8,15 @@ use native.Mathlib.Omega.{arith}
 use lib.ListN.{length}
 use borrow.Author.Needs.{needs}
 use denote.Ref.{now}
-use Rattle.parts.specs.Device.{lengthAt, countAt}
-use Rattle.layout.specs.Range.{owns}
+use Rattle.parts.specs.Table.{lengthAt, countAt}
+use Rattle.layout.specs.Ownership.{owns}
 use Rattle.layout.specs.Step.{listed}
-use Rattle.layout.specs.Reader.{stepsAt, stepOffset}
-use Rattle.layout.specs.Accepting.{isRead}
-use Rattle.layout.specs.First.{stepOf, step-bytes}
+use Rattle.layout.specs.StepReading.{stepsAt, stepOffset}
+use Rattle.layout.specs.Laws.AcceptedLayout.{isRead}
+use Rattle.layout.specs.Inner.FirstStep.{stepOf, step-bytes}
 use Rattle.stream.specs.Stream.{stepsPackets}
-use Rattle.compiler.specs.Writing.{Room, front-room, written-length, joined, joined-room, nothing, Remains}
-use Rattle.compiler.specs.Stepping.{none-put, step-put, step-count}
+use Rattle.compiler.specs.Inner.PacketWriting.{Room, front-room, written-length, joined, joined-room, nothing, Remains}
+use Rattle.compiler.specs.Inner.StepPackets.{none-put, step-put, step-count}
 use Rattle.compiler.proofs.emit.put_steps.Statement.{statement}
 use Rattle.compiler.proofs.emit.put_steps.Tie as tie
 

@@ -6,14 +6,14 @@ use native.Mathlib.Omega.{arith}
 use lib.ListN.{length}
 use borrow.Author.Needs.{needs}
 use denote.Ref.{now}
-use Rattle.parts.specs.Device.{lengthAt, countAt}
-use Rattle.layout.specs.Range.{owns}
+use Rattle.parts.specs.Table.{lengthAt, countAt}
+use Rattle.layout.specs.Ownership.{owns}
 use Rattle.layout.specs.Step.{Step, listed}
 use Rattle.layout.specs.Layout.{layoutRead}
 use Rattle.stream.specs.Stream.{stepsPackets, ending, streamPackets, stream}
-use Rattle.stream.specs.Length.{size, sizes}
-use Rattle.compiler.specs.Writing.{penAt, Room, joined, joined-room, middle-room, next-room, once}
-use Rattle.compiler.specs.Whole.{synced, synced-length, stream-read, stream-room, stream-written}
+use Rattle.stream.specs.Laws.StreamLength.{size, sizes}
+use Rattle.compiler.specs.Inner.PacketWriting.{cursorAt, Room, joined, joined-room, middle-room, next-room, once}
+use Rattle.compiler.specs.Inner.WholeStream.{synced, synced-length, stream-read, stream-room, stream-written}
 use Rattle.compiler.proofs.emit.put_stream.Statement.{statement}
 use Rattle.compiler.proofs.emit.put_stream.Tie as tie
 
@@ -24,7 +24,7 @@ steps s = let d = s .args .device in listed (layoutRead (lengthAt d) (countAt d)
 fits : (s : tie.Start) → length (stream (s .args .device) (steps s)) ≤ length (now (s .args .output))
 fits s = rw (stream-read (s .args .device) _ (s .pre .1)) at (s .pre .2)
 
-room : (s : tie.Start) → Room (synced (now (s .args .output))) (penAt 8 0) (streamPackets (s .args .device) (steps s))
+room : (s : tie.Start) → Room (synced (now (s .args .output))) (cursorAt 8 0) (streamPackets (s .args .device) (steps s))
 room s = stream-room (s .args .device) (steps s) (now (s .args .output)) (fits s)
 
 table-requires : tie.Need-table-requires

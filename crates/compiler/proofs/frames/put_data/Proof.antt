@@ -6,7 +6,7 @@ use native.Mathlib.Omega.{arith}
 use denote.Ref.{now}
 use lib.ListN.{length, drop}
 use Rattle.stream.specs.Stream.{wordsFrom}
-use Rattle.compiler.specs.Words.{words-next, Left, left-all, left-next, left-none}
+use Rattle.compiler.specs.Inner.FrameDataWords.{words-next, Left, left-all, left-next, left-none}
 use Rattle.compiler.proofs.frames.put_data.Statement.{statement}
 use Rattle.compiler.proofs.frames.put_data.Tie as tie
 

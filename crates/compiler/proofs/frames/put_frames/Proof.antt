@@ -6,13 +6,14 @@ use Prim.Native.Nat.{ℕ, _+_}
 use native.Mathlib.Omega.{arith}
 use denote.Ref.{now}
 use lib.ListN.{length, drop, replicate, length-append, length-replicate}
-use Rattle.crc16.specs.Register.{fedWords, fed-append, checkWord}
-use Rattle.registers.specs.Addresses.{addressOf}
-use Rattle.stream.specs.Packets.{crcOf, packetWords}
+use Rattle.crc16.specs.CrcRegister.{fedWords, checkWord}
+use Rattle.crc16.specs.Laws.FedWords.{fed-append}
+use Rattle.registers.specs.RegisterAddresses.{addressOf}
+use Rattle.stream.specs.StreamPackets.{crcOf, packetWords}
 use Rattle.stream.specs.Stream.{wordsFrom}
-use Rattle.stream.specs.Length.{words-length}
-use Rattle.stream.specs.After.{crcAfter}
-use Rattle.compiler.specs.Emitted.{put-then, words-one}
+use Rattle.stream.specs.Laws.StreamLength.{words-length}
+use Rattle.stream.specs.Laws.PacketsJoined.{crcAfter}
+use Rattle.compiler.specs.Inner.Emitted.{put-then, words-one}
 use borrow.Author.Needs.{needs}
 use Rattle.compiler.proofs.frames.put_frames.Statement.{statement}
 use Rattle.compiler.proofs.frames.put_frames.Tie as tie

@@ -4,7 +4,7 @@ use mathlib.Core.Path.{_≡_, refl, ap}
 use Prim.Native.Nat.{ℕ, suc, _+_, _-_, _*_}
 use native.Mathlib.Omega.{arith}
 use lib.ListN.{replicate}
-use Rattle.compiler.specs.Words.{Left, left-all, left-next, left-none}
+use Rattle.compiler.specs.Inner.FrameDataWords.{Left, left-all, left-next, left-none}
 use Rattle.compiler.proofs.frames.put_zeros.Statement.{statement}
 use Rattle.compiler.proofs.frames.put_zeros.Tie as tie
 

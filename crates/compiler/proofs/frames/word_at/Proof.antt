@@ -3,7 +3,7 @@
 use Prim.Native.Nat.{_+_, _^_, _<_}
 use native.Mathlib.Omega.{arith}
 use denote.Ref.{now}
-use Rattle.compiler.specs.Words.{wordAt}
+use Rattle.compiler.specs.Inner.FrameDataWords.{wordAt}
 use borrow.Author.Needs.{needs}
 use Rattle.compiler.proofs.frames.word_at.Statement.{statement}
 use Rattle.compiler.proofs.frames.word_at.Tie as tie

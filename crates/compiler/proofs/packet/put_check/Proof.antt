@@ -3,11 +3,11 @@
 use mathlib.Core.Path.{refl}
 use mathlib.Core.List.{[], _∷_}
 use denote.Ref.{now}
-use Rattle.crc16.specs.Register.{checkWord}
-use Rattle.registers.specs.Addresses.{addressOf}
-use Rattle.stream.specs.Packets.{crcOf, packetWords, packetsWords}
-use Rattle.stream.specs.After.{crcAfter}
-use Rattle.compiler.specs.Emitted.{put-append}
+use Rattle.crc16.specs.CrcRegister.{checkWord}
+use Rattle.registers.specs.RegisterAddresses.{addressOf}
+use Rattle.stream.specs.StreamPackets.{crcOf, packetWords, packetsWords}
+use Rattle.stream.specs.Laws.PacketsJoined.{crcAfter}
+use Rattle.compiler.specs.Inner.Emitted.{put-append}
 use borrow.Author.Needs.{needs}
 use Rattle.compiler.proofs.packet.put_check.Statement.{statement}
 use Rattle.compiler.proofs.packet.put_check.Tie as tie

@@ -1,8 +1,8 @@
 -- `compiler::packet::put_command` meets its contract: a command is a write to CMD, after which RCRC makes the CRC zero.
 -- By what `put_write` ensures, and the test of the command.
 use borrow.Author.Tests.{eq-eqb, ne-eqb}
-use Rattle.stream.specs.Packets.{crcOf, packetWords, packetsWords}
-use Rattle.stream.specs.After.{crcAfter}
+use Rattle.stream.specs.StreamPackets.{crcOf, packetWords, packetsWords}
+use Rattle.stream.specs.Laws.PacketsJoined.{crcAfter}
 use borrow.Author.Needs.{needs}
 use Rattle.compiler.proofs.packet.put_command.Statement.{statement}
 use Rattle.compiler.proofs.packet.put_command.Tie as tie

@@ -1,7 +1,7 @@
 -- `compiler::packet::put_fed` meets its contract.
 -- By what `put_word` and `feed_with` ensure, and the law that lookups in the table of `entries` feed as `feed` does.
 use mathlib.Core.Path.{_∙_, refl}
-use Rattle.crc16.specs.Lookup.{feed-with-entries}
+use Rattle.crc16.specs.Laws.NibbleLookup.{feed-with-entries}
 use borrow.Author.Needs.{needs}
 use Rattle.compiler.proofs.packet.put_fed.Statement.{statement}
 use Rattle.compiler.proofs.packet.put_fed.Tie as tie

@@ -5,7 +5,7 @@ use Prim.Native.Nat.{suc, _+_}
 use native.Mathlib.Omega.{arith}
 use lib.ListN.{length-set}
 use lib.Pow.{shr-mod}
-use Rattle.parts.specs.Memory.{bytesOf}
+use Rattle.parts.specs.FrameMemory.{bytesOf}
 use borrow.Author.Needs.{needs}
 use Rattle.compiler.proofs.packet.put_word.Statement.{statement}
 use Rattle.compiler.proofs.packet.put_word.Tie as tie

@@ -5,10 +5,10 @@ use mathlib.Core.List.{[], _∷_}
 use Prim.Native.Nat.{_+_, _*_}
 use native.Mathlib.Omega.{arith}
 use denote.Ref.{now}
-use Rattle.stream.specs.Packets.{header1, crcOf, packetWords, packetsWords}
-use Rattle.registers.specs.Addresses.{address-bound}
-use Rattle.stream.specs.After.{crcAfter}
-use Rattle.compiler.specs.Emitted.{put-append}
+use Rattle.stream.specs.StreamPackets.{header1, crcOf, packetWords, packetsWords}
+use Rattle.registers.specs.Laws.AddressLookup.{address-bound}
+use Rattle.stream.specs.Laws.PacketsJoined.{crcAfter}
+use Rattle.compiler.specs.Inner.Emitted.{put-append}
 use borrow.Author.Needs.{needs}
 use Rattle.compiler.proofs.packet.put_write.Statement.{statement}
 use Rattle.compiler.proofs.packet.put_write.Tie as tie

@@ -2,7 +2,7 @@
 -- By the contracts of the calls, with the test that led to each answer.
 use borrow.Author.Needs.{needs}
 use borrow.Author.Tests.{lt-ltb, le-ltb}
-use Rattle.config.specs.Words.{cmdWord}
+use Rattle.config.specs.DataWords.{cmdWord}
 use Rattle.config.proofs.data.cmd_word.Statement.{statement}
 use Rattle.config.proofs.data.cmd_word.Tie as tie
 

@@ -2,9 +2,9 @@
 -- By the contracts of the calls, with the test that led to each answer.
 use borrow.Author.Needs.{needs}
 use borrow.Author.Tests.{eq-eqb, ne-eqb}
-use Rattle.registers.specs.Addresses.{addressOf}
-use Rattle.config.specs.Control.{raised}
-use Rattle.config.specs.Words.{checked}
+use Rattle.registers.specs.RegisterAddresses.{addressOf}
+use Rattle.config.specs.ControlState.{raised}
+use Rattle.config.specs.DataWords.{checked}
 use Rattle.config.proofs.data.crc_word.Statement.{statement}
 use Rattle.config.proofs.data.crc_word.Tie as tie
 

@@ -1,7 +1,7 @@
 -- `config::data::data_word` meets its contract: a data word to each register.
 -- By the contract of the register's call, once the register is known.
 use borrow.Author.Needs.{needs}
-use Rattle.config.specs.Words.{dataWord}
+use Rattle.config.specs.DataWords.{dataWord}
 use Rattle.config.proofs.data.data_word.Statement.{statement}
 use Rattle.config.proofs.data.data_word.Tie as tie
 

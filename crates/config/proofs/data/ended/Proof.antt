@@ -1,7 +1,7 @@
 -- `config::data::ended` meets its contract: the auto CRC word after FDRI, a header after any other register.
 -- From what the test ensures.
 use borrow.Author.Needs.{needs}
-use Rattle.config.specs.Words.{ended}
+use Rattle.config.specs.DataWords.{ended}
 use Rattle.config.proofs.data.ended.Statement.{statement}
 use Rattle.config.proofs.data.ended.Tie as tie
 

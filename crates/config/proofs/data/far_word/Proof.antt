@@ -1,7 +1,7 @@
 -- `config::data::far_word` meets its contract: the command acts again, on the record with the word and the frame it names.
 -- By the contracts of the calls.
 use borrow.Author.Needs.{needs}
-use Rattle.config.specs.Words.{farWord}
+use Rattle.config.specs.DataWords.{farWord}
 use Rattle.config.proofs.data.far_word.Statement.{statement}
 use Rattle.config.proofs.data.far_word.Tie as tie
 

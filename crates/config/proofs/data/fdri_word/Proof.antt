@@ -2,9 +2,9 @@
 -- By the contracts of the calls, with the tests that led to each answer.
 use borrow.Author.Needs.{needs}
 use borrow.Author.Tests.{lt-ltb, le-ltb, le-leb, lt-leb}
-use Rattle.registers.specs.Addresses.{addressOf}
-use Rattle.config.specs.Control.{raised}
-use Rattle.config.specs.Words.{fdriWord}
+use Rattle.registers.specs.RegisterAddresses.{addressOf}
+use Rattle.config.specs.ControlState.{raised}
+use Rattle.config.specs.DataWords.{fdriWord}
 use Rattle.config.proofs.data.fdri_word.Statement.{statement}
 use Rattle.config.proofs.data.fdri_word.Tie as tie
 

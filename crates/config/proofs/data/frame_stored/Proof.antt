@@ -1,7 +1,7 @@
 -- `config::data::frame_stored` meets its contract: the frame is stored at the current one, which steps on; stop 9 where there is none.
 -- By the contracts of the calls, in each case of the current frame.
 use borrow.Author.Needs.{needs}
-use Rattle.config.specs.Words.{frameStored}
+use Rattle.config.specs.DataWords.{frameStored}
 use Rattle.config.proofs.data.frame_stored.Statement.{statement}
 use Rattle.config.proofs.data.frame_stored.Tie as tie
 

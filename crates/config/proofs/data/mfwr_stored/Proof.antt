@@ -1,7 +1,7 @@
 -- `config::data::mfwr_stored` meets its contract: the frame in hand is stored at the current one; stop 9 where there is none.
 -- By the contracts of the calls, in each case of the current frame.
 use borrow.Author.Needs.{needs}
-use Rattle.config.specs.Words.{mfwrStored}
+use Rattle.config.specs.DataWords.{mfwrStored}
 use Rattle.config.proofs.data.mfwr_stored.Statement.{statement}
 use Rattle.config.proofs.data.mfwr_stored.Tie as tie
 

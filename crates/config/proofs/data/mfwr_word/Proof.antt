@@ -2,7 +2,7 @@
 -- By the contracts of the calls, with the test that led to each answer.
 use borrow.Author.Needs.{needs}
 use borrow.Author.Tests.{le-leb, lt-leb}
-use Rattle.config.specs.Words.{mfwrWord}
+use Rattle.config.specs.DataWords.{mfwrWord}
 use Rattle.config.proofs.data.mfwr_word.Statement.{statement}
 use Rattle.config.proofs.data.mfwr_word.Tie as tie
 

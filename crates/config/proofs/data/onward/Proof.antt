@@ -2,7 +2,7 @@
 -- By computation, with the test that led to each answer.
 use borrow.Author.Needs.{needs}
 use borrow.Author.Tests.{le-leb, lt-leb}
-use Rattle.config.specs.Words.{onward}
+use Rattle.config.specs.DataWords.{onward}
 use Rattle.config.proofs.data.onward.Statement.{statement}
 use Rattle.config.proofs.data.onward.Tie as tie
 

@@ -2,7 +2,7 @@
 -- By computation, with the test that led to each answer.
 use borrow.Author.Needs.{needs}
 use borrow.Author.Tests.{lt-ltb, le-ltb}
-use Rattle.config.specs.Words.{stepped}
+use Rattle.config.specs.DataWords.{stepped}
 use Rattle.config.proofs.data.stepped.Statement.{statement}
 use Rattle.config.proofs.data.stepped.Tie as tie
 

@@ -1,7 +1,7 @@
 -- `config::figures::named` meets its contract: the frame that the address names, or none.
 -- By computation, once the answer is known, from what `frame_number` ensures of it.
 use borrow.Author.Needs.{needs}
-use Rattle.config.specs.Part.{currentOf}
+use Rattle.config.specs.CurrentFrame.{currentOf}
 use Rattle.config.proofs.figures.named.Statement.{statement}
 use Rattle.config.proofs.figures.named.Tie as tie
 

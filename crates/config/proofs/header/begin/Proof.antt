@@ -1,7 +1,7 @@
 -- `config::header::begin` meets its contract: a write begins, or stops by check 6, then 7.
 -- By computation, with what the two checks ensure and which way each went.
 use borrow.Author.Needs.{needs}
-use Rattle.config.specs.Packets.{begin}
+use Rattle.config.specs.PacketHeaders.{begin}
 use Rattle.config.proofs.header.begin.Statement.{statement}
 use Rattle.config.proofs.header.begin.Tie as tie
 

@@ -2,7 +2,7 @@
 -- From what the tests ensure; a remainder by 0 is the number itself.
 use native.Mathlib.Nat.{mod-zero}
 use borrow.Author.Needs.{needs}
-use Rattle.config.specs.Packets.{counted}
+use Rattle.config.specs.PacketHeaders.{counted}
 use Rattle.config.proofs.header.counted.Statement.{statement}
 use Rattle.config.proofs.header.counted.Tie as tie
 

@@ -2,7 +2,7 @@
 -- By computation, once the case is known, from what the called functions ensure.
 use borrow.Author.Tests.{eq-eqb, ne-eqb}
 use borrow.Author.Needs.{needs}
-use Rattle.config.specs.Packets.{obeyed}
+use Rattle.config.specs.PacketHeaders.{obeyed}
 use Rattle.config.proofs.header.obey.Statement.{statement}
 use Rattle.config.proofs.header.obey.Tie as tie
 

@@ -2,7 +2,7 @@
 -- By computation, with the tests that led to each answer and what the called function ensures.
 use borrow.Author.Tests.{eq-eqb, ne-eqb}
 use borrow.Author.Needs.{needs}
-use Rattle.config.specs.Packets.{packet}
+use Rattle.config.specs.PacketHeaders.{packet}
 use Rattle.config.proofs.header.packet.Statement.{statement}
 use Rattle.config.proofs.header.packet.Tie as tie
 

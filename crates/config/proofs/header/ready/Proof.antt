@@ -5,7 +5,7 @@ use mathlib.Core.Logic.{⊎-elim}
 use mathlib.Core.Path.{_≡_, _∙_}
 use lib.Dec.{eqb}
 use borrow.Author.Needs.{needs}
-use Rattle.config.specs.Packets.{ready}
+use Rattle.config.specs.PacketHeaders.{ready}
 use Rattle.config.proofs.header.ready.Statement.{statement}
 use Rattle.config.proofs.header.ready.Tie as tie
 

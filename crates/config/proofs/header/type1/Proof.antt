@@ -1,7 +1,7 @@
 -- `config::header::type1` meets its contract: what a type 1 header asks.
 -- By computation, with the tests that led to each answer.
 use borrow.Author.Tests.{eq-eqb, ne-eqb}
-use Rattle.config.specs.Packets.{type1}
+use Rattle.config.specs.PacketHeaders.{type1}
 use Rattle.config.proofs.header.type1.Statement.{statement}
 use Rattle.config.proofs.header.type1.Tie as tie
 

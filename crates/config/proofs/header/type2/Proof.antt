@@ -2,7 +2,7 @@
 -- By computation, once the case is known, with the tests that led to each answer.
 use borrow.Author.Tests.{eq-eqb, ne-eqb}
 use borrow.Author.Needs.{needs}
-use Rattle.config.specs.Packets.{type2}
+use Rattle.config.specs.PacketHeaders.{type2}
 use Rattle.config.proofs.header.type2.Statement.{statement}
 use Rattle.config.proofs.header.type2.Tie as tie
 

@@ -2,7 +2,7 @@
 -- By computation, once the case is known, with the test of the count.
 use borrow.Author.Tests.{eq-eqb, ne-eqb}
 use borrow.Author.Needs.{needs}
-use Rattle.config.specs.Packets.{typeOneWrite}
+use Rattle.config.specs.PacketHeaders.{typeOneWrite}
 use Rattle.config.proofs.header.type_one_write.Statement.{statement}
 use Rattle.config.proofs.header.type_one_write.Tie as tie
 
@@ -12,15 +12,15 @@ enum-told c = search needs
 stopped-requires : tie.Need-stopped-requires
 stopped-requires c κs = search needs
 
-enum-known-opened : tie.Need-enum-known-opened
-enum-known-opened c = search needs
+enum-known-found : tie.Need-enum-known-found
+enum-known-found c = search needs
 
 going-requires : tie.Need-going-requires
 going-requires c κs = search needs
 
 returns : tie.Need-returns
 unfolding typeOneWrite
-returns c = simp (c .going .ensures, c .before .before .before .opened .given .1, eq-eqb _ _ (c .before .if1 .taken))
+returns c = simp (c .going .ensures, c .before .before .before .found .given .1, eq-eqb _ _ (c .before .if1 .taken))
 
 begin-requires : tie.Need-begin-requires
 begin-requires c κs = search needs
@@ -31,7 +31,7 @@ returns-2 c = simp (c .stopped .ensures, c .before .enum-told .given .1)
 
 returns-3 : tie.Need-returns-3
 unfolding typeOneWrite
-returns-3 c = simp (c .begin .ensures, c .before .before .before .opened .given .1, ne-eqb _ _ (c .before .if1 .left))
+returns-3 c = simp (c .begin .ensures, c .before .before .before .found .given .1, ne-eqb _ _ (c .before .if1 .left))
 
 pub type-one-write-spec : {M : Type 1} → statement M
 type-one-write-spec =
@@ -39,7 +39,7 @@ type-one-write-spec =
     (tie.spec
     enum-told
     stopped-requires
-    enum-known-opened
+    enum-known-found
     going-requires
     returns
     begin-requires

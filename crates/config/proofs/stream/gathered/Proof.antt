@@ -1,7 +1,7 @@
 -- `config::stream::gathered` meets its contract: one byte more of the partial word, or the word that it completes.
 -- By the contracts of the calls, once the partial word is known.
 use borrow.Author.Needs.{needs}
-use Rattle.config.specs.Bytes.{gathered}
+use Rattle.config.specs.StreamBytes.{gathered}
 use Rattle.config.proofs.stream.gathered.Statement.{statement}
 use Rattle.config.proofs.stream.gathered.Tie as tie
 

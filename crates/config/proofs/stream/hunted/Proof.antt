@@ -1,7 +1,7 @@
 -- `config::stream::hunted` meets its contract: the window takes the byte, or the sync word is whole.
 -- By computation, once the window is known.
 use borrow.Author.Needs.{needs}
-use Rattle.config.specs.Bytes.{hunted}
+use Rattle.config.specs.StreamBytes.{hunted}
 use Rattle.config.proofs.stream.hunted.Statement.{statement}
 use Rattle.config.proofs.stream.hunted.Tie as tie
 

@@ -1,7 +1,7 @@
 -- `config::stream::is_sync` meets its contract: each test of the code is a test of the definition.
 -- By computation, with the tests that led to each answer.
 use borrow.Author.Tests.{eq-eqb, ne-eqb}
-use Rattle.config.specs.Bytes.{isSync}
+use Rattle.config.specs.StreamBytes.{isSync}
 use Rattle.config.proofs.stream.is_sync.Statement.{statement}
 use Rattle.config.proofs.stream.is_sync.Tie as tie
 

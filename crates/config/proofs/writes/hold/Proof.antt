@@ -1,8 +1,8 @@
 -- `config::writes::hold` meets its contract: the word stands in its register.
 -- By computation, once the register is known.
 use borrow.Author.Needs.{needs}
-use Rattle.registers.specs.Addresses.{addressOf}
-use Rattle.config.specs.Registers.{hold}
+use Rattle.registers.specs.RegisterAddresses.{addressOf}
+use Rattle.config.specs.RegisterWrites.{hold}
 use Rattle.config.proofs.writes.hold.Statement.{statement}
 use Rattle.config.proofs.writes.hold.Tie as tie
 

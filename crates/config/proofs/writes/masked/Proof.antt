@@ -2,7 +2,7 @@
 -- By computation; the difference fits since MASK is a word of 32 bits.
 use mathlib.Core.Path.{refl}
 use borrow.Author.Needs.{needs}
-use Rattle.config.specs.Registers.{masked}
+use Rattle.config.specs.RegisterWrites.{masked}
 use Rattle.config.proofs.writes.masked.Statement.{statement}
 use Rattle.config.proofs.writes.masked.Tie as tie
 

@@ -1,7 +1,7 @@
 -- `config::writes::write` meets its contract: the word is fed to the CRC unless it is for LOUT, then held.
 -- From what the test and the calls ensure.
 use borrow.Author.Needs.{needs}
-use Rattle.config.specs.Registers.{fedCrc}
+use Rattle.config.specs.RegisterWrites.{fedCrc}
 use Rattle.config.proofs.writes.write.Statement.{statement}
 use Rattle.config.proofs.writes.write.Tie as tie
 

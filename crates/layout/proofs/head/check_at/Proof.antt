@@ -3,7 +3,7 @@
 use mathlib.Core.Path.{_∙_, sym}
 use borrow.Author.Needs.{needs}
 use borrow.Author.Tests.{lt-ltb, le-ltb}
-use Rattle.parts.specs.Device.{valueOf}
+use Rattle.parts.specs.Table.{valueOf}
 use Rattle.layout.specs.Layout.{checkFor}
 use Rattle.layout.proofs.head.check_at.Statement.{statement}
 use Rattle.layout.proofs.head.check_at.Tie as tie

@@ -7,13 +7,13 @@ use native.Mathlib.Nat.{mul-le-mul}
 use native.Mathlib.Omega.{arith}
 use borrow.Author.Needs.{needs}
 use denote.Ref.{now}
-use Rattle.parts.specs.Device.{lengthAt, countAt}
-use Rattle.parts.specs.Figures.{length-fits, count-fits}
-use Rattle.layout.specs.Range.{owns}
-use Rattle.layout.specs.Reader.{stepAt, stepsAt}
-use Rattle.layout.specs.Layout.{ended, verdictOf}
-use Rattle.layout.specs.Views.{write-view, multi-view}
-use Rattle.layout.specs.Loops.{summed, verdict-summed, step-refused, step-write, step-multi, steps-trailing, steps-accepted}
+use Rattle.parts.specs.Table.{lengthAt, countAt}
+use Rattle.parts.specs.Laws.Figures.{length-fits, count-fits}
+use Rattle.layout.specs.Ownership.{owns}
+use Rattle.layout.specs.StepReading.{stepAt, stepsAt}
+use Rattle.layout.specs.Layout.{endRead, verdictOf}
+use Rattle.layout.specs.Laws.StepViews.{write-view, multi-view}
+use Rattle.layout.specs.Inner.CheckLoops.{summed, verdict-summed, step-refused, step-write, step-multi, steps-trailing, steps-accepted}
 use Rattle.layout.specs.declared.step.StepAt.the-variants as StepAt
 use Rattle.layout.proofs.head.layout_steps.Statement.{statement}
 use Rattle.layout.proofs.head.layout_steps.Tie as tie
@@ -23,7 +23,7 @@ Inv-loop device range layout count start length at₀ words₀ left₀ at words 
     let l = lengthAt device in
     let f = countAt device in
     (words + 414505 * left ≤ 12 + 414505 * count)
-    × (summed l words (ended layout (stepsAt l f (owns range) layout left at)) ≡ verdictOf l (ended layout (stepsAt l f (owns range) layout count start)))
+    × (summed l words (endRead layout (stepsAt l f (owns range) layout left at)) ≡ verdictOf l (endRead layout (stepsAt l f (owns range) layout count start)))
 
 abbrev μ-loop : tie.MeasureT-loop
 μ-loop device range layout count start length at₀ words₀ left₀ at words left = left

@@ -2,7 +2,7 @@
 -- By computation, with the tests that led to each answer.
 use borrow.Author.Needs.{needs}
 use borrow.Author.Tests.{le-leb, lt-leb}
-use Rattle.layout.specs.Range.{owns}
+use Rattle.layout.specs.Ownership.{owns}
 use Rattle.layout.proofs.range.owns.Statement.{statement}
 use Rattle.layout.proofs.range.owns.Tie as tie
 

@@ -5,8 +5,8 @@ use Prim.Native.Nat.{_+_}
 use native.Mathlib.Omega.{arith}
 use borrow.Author.Needs.{needs}
 use borrow.Author.Tests.{not-true, not-false}
-use Rattle.layout.specs.Range.{owns, ownsRun}
-use Rattle.layout.specs.Loops.{run-more}
+use Rattle.layout.specs.Ownership.{owns, ownsRun}
+use Rattle.layout.specs.Inner.CheckLoops.{run-more}
 use Rattle.layout.proofs.range.owns_run.Statement.{statement}
 use Rattle.layout.proofs.range.owns_run.Tie as tie
 

@@ -7,8 +7,8 @@ use lib.ListN.{length}
 use borrow.Author.Needs.{needs}
 use borrow.Author.Tests.{eq-eqb, ne-eqb, lt-ltb, le-ltb}
 use denote.Ref.{now}
-use Rattle.parts.specs.Device.{lengthAt, countAt}
-use Rattle.layout.specs.Reader.{judgedMulti}
+use Rattle.parts.specs.Table.{lengthAt, countAt}
+use Rattle.layout.specs.StepReading.{judgedMulti}
 use Rattle.layout.proofs.step.judged_multi.Statement.{statement}
 use Rattle.layout.proofs.step.judged_multi.Tie as tie
 

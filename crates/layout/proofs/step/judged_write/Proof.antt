@@ -8,9 +8,9 @@ use lib.ListN.{length}
 use borrow.Author.Needs.{needs}
 use borrow.Author.Tests.{eq-eqb, ne-eqb, lt-ltb, le-ltb, not-true, not-false}
 use denote.Ref.{now}
-use Rattle.parts.specs.Device.{lengthAt, countAt}
-use Rattle.parts.specs.Figures.{length-fits, count-fits}
-use Rattle.layout.specs.Reader.{judgedWrite}
+use Rattle.parts.specs.Table.{lengthAt, countAt}
+use Rattle.parts.specs.Laws.Figures.{length-fits, count-fits}
+use Rattle.layout.specs.StepReading.{judgedWrite}
 use Rattle.layout.proofs.step.judged_write.Statement.{statement}
 use Rattle.layout.proofs.step.judged_write.Tie as tie
 

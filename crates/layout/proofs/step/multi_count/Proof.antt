@@ -2,8 +2,8 @@
 -- By computation, once the number is read.
 use mathlib.Core.Path.{_∙_, sym}
 use borrow.Author.Needs.{needs}
-use Rattle.numbers.specs.Code.{number-spans}
-use Rattle.layout.specs.Reader.{multiCount}
+use Rattle.numbers.specs.Laws.ShortestForm.{number-spans}
+use Rattle.layout.specs.StepReading.{multiCount}
 use Rattle.layout.proofs.step.multi_count.Statement.{statement}
 use Rattle.layout.proofs.step.multi_count.Tie as tie
 

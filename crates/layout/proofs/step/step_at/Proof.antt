@@ -3,7 +3,7 @@
 use mathlib.Core.Path.{_∙_, sym}
 use borrow.Author.Needs.{needs}
 use borrow.Author.Tests.{eq-eqb, ne-eqb}
-use Rattle.layout.specs.Reader.{stepKind}
+use Rattle.layout.specs.StepReading.{stepKind}
 use Rattle.layout.proofs.step.step_at.Statement.{statement}
 use Rattle.layout.proofs.step.step_at.Tie as tie
 

@@ -1,7 +1,7 @@
 -- `layout::step::step_offset` meets its contract: each arm tells the offset that the definition has.
 -- By computation, once the case is known.
 use borrow.Author.Needs.{needs}
-use Rattle.layout.specs.Reader.{stepOffset}
+use Rattle.layout.specs.StepReading.{stepOffset}
 use Rattle.layout.proofs.step.step_offset.Statement.{statement}
 use Rattle.layout.proofs.step.step_offset.Tie as tie
 

@@ -2,7 +2,7 @@
 -- By computation, once the number is read.
 use mathlib.Core.Path.{_∙_, sym}
 use borrow.Author.Needs.{needs}
-use Rattle.layout.specs.Reader.{writeFirst}
+use Rattle.layout.specs.StepReading.{writeFirst}
 use Rattle.layout.proofs.step.write_first.Statement.{statement}
 use Rattle.layout.proofs.step.write_first.Tie as tie
 

@@ -3,7 +3,7 @@
 use mathlib.Core.Path.{_∙_, sym}
 use borrow.Author.Needs.{needs}
 use borrow.Author.Tests.{lt-ltb, le-ltb, not-true, not-false}
-use Rattle.layout.specs.Reader.{judgedTarget}
+use Rattle.layout.specs.StepReading.{judgedTarget}
 use Rattle.layout.proofs.targets.judged_target.Statement.{statement}
 use Rattle.layout.proofs.targets.judged_target.Tie as tie
 

@@ -6,11 +6,11 @@ use native.Mathlib.Omega.{arith}
 use borrow.Author.Needs.{needs}
 use denote.Ref.{now}
 use Rattle.numbers.specs.Number.{numberAt}
-use Rattle.parts.specs.Device.{lengthAt, countAt}
-use Rattle.parts.specs.Figures.{length-fits}
-use Rattle.layout.specs.Range.{owns}
-use Rattle.layout.specs.Reader.{judgedTarget, targetsAt, targetsRead}
-use Rattle.layout.specs.Loops.{target-refused, target-next}
+use Rattle.parts.specs.Table.{lengthAt, countAt}
+use Rattle.parts.specs.Laws.Figures.{length-fits}
+use Rattle.layout.specs.Ownership.{owns}
+use Rattle.layout.specs.StepReading.{judgedTarget, targetsAt, targetsRead}
+use Rattle.layout.specs.Inner.CheckLoops.{target-refused, target-next}
 use Rattle.layout.proofs.targets.multi_targets.Statement.{statement}
 use Rattle.layout.proofs.targets.multi_targets.Tie as tie
 

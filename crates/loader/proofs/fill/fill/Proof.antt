@@ -7,9 +7,9 @@ use native.Mathlib.Nat.{sub-zero, add-zero, add-assoc}
 use native.Mathlib.Omega.{arith}
 use borrow.Author.Needs.{needs}
 use denote.Ref.{now}
-use Rattle.crc16.specs.Register.{fedWords}
-use Rattle.crc16.specs.Lookup.{feed-with-entries}
-use Rattle.loader.specs.Fill.{wordAt, wordsAt, lastOf, keptAll}
+use Rattle.crc16.specs.CrcRegister.{fedWords}
+use Rattle.crc16.specs.Laws.NibbleLookup.{feed-with-entries}
+use Rattle.loader.specs.Inner.FillWords.{wordAt, wordsAt, lastOf, keptAll}
 use Rattle.loader.proofs.fill.fill.Statement.{statement}
 use Rattle.loader.proofs.fill.fill.Tie as tie
 

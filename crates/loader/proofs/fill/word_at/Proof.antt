@@ -2,7 +2,7 @@
 -- By the range of a slice's elements, and linear arithmetic.
 use Prim.Native.Nat.{_+_, _^_, _<_}
 use native.Mathlib.Omega.{arith}
-use Rattle.config.specs.Bytes.{wordOf}
+use Rattle.config.specs.StreamBytes.{wordOf}
 use borrow.Author.Needs.{needs}
 use Rattle.loader.proofs.fill.word_at.Statement.{statement}
 use Rattle.loader.proofs.fill.word_at.Tie as tie

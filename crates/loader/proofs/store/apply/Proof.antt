@@ -1,7 +1,7 @@
 -- `loader::store::apply` meets its contract: each arm does what the definition does to the buffer and to the memory.
 -- By computation, once the event is known, from what `keep` and `store_within` ensure.
 use borrow.Author.Needs.{needs}
-use Rattle.loader.specs.Memory.{buffered, stored}
+use Rattle.loader.specs.EventEffects.{buffered, stored}
 use Rattle.loader.proofs.store.apply.Statement.{statement}
 use Rattle.loader.proofs.store.apply.Tie as tie
 

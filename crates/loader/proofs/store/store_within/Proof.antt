@@ -8,9 +8,9 @@ use lib.ListN.{length}
 use borrow.Author.Needs.{needs}
 use borrow.Author.Tests.{le-leb, lt-leb}
 use denote.Ref.{now}
-use Rattle.loader.specs.Memory.{storeWithin}
-use Rattle.parts.specs.Placing.{placed-sets}
-use Rattle.loader.specs.Frames.{frame-size}
+use Rattle.loader.specs.EventEffects.{storeWithin}
+use Rattle.parts.specs.Laws.FramePlacing.{placed-sets}
+use Rattle.loader.specs.Inner.FrameStore.{frame-size}
 use Rattle.loader.proofs.store.store_within.Statement.{statement}
 use Rattle.loader.proofs.store.store_within.Tie as tie
 

@@ -7,8 +7,8 @@ use lib.ListN.{length, take, drop, length-set}
 use lib.Seq.{sets}
 use borrow.Author.Needs.{needs}
 use denote.Ref.{now}
-use Rattle.parts.specs.Memory.{bytesOf}
-use Rattle.loader.specs.Frames.{write-next, write-end}
+use Rattle.parts.specs.FrameMemory.{bytesOf}
+use Rattle.loader.specs.Inner.FrameStore.{write-next, write-end}
 use Rattle.loader.proofs.store.write_words.Statement.{statement}
 use Rattle.loader.proofs.store.write_words.Tie as tie
 

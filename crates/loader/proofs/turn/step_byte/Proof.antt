@@ -2,8 +2,8 @@
 -- By the turn of what the control machine makes of the byte, which `finish` applies.
 use borrow.Author.Needs.{needs}
 use denote.Ref.{now}
-use Rattle.parts.specs.Figures.{length-fits}
-use Rattle.loader.specs.Turn.{byte-turn, fed-turn}
+use Rattle.parts.specs.Laws.Figures.{length-fits}
+use Rattle.loader.specs.Inner.Turn.{byte-turn, transition-turn}
 use Rattle.loader.proofs.turn.step_byte.Statement.{statement}
 use Rattle.loader.proofs.turn.step_byte.Tie as tie
 
@@ -24,7 +24,7 @@ returns c =
     let s = c .before .before .before .before .before .before .before .before .before in
     let a = s .args in
     let f = c .before .before .finish .ensures in
-    fed-turn (c .before .before .before .before .before .byte .ensures) (s .pre .2) (f .0) (f .1 .0) (f .1 .1)
+    transition-turn (c .before .before .before .before .before .byte .ensures) (s .pre .2) (f .0) (f .1 .0) (f .1 .1)
     (byte-turn (a .phase) (a .control) (now (a .frame)) (now (a .memory)) (now (a .bytes)) (a .i) (s .pre .1) (s .pre .0))
 
 pub step-byte-spec : {M : Type 1} → statement M

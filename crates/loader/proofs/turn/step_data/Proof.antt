@@ -3,7 +3,7 @@
 use mathlib.Core.Path.{refl}
 use borrow.Author.Needs.{needs}
 use denote.Ref.{now}
-use Rattle.loader.specs.Words.{takesWords}
+use Rattle.loader.specs.Laws.WordRun.{takesWords}
 use Rattle.loader.proofs.turn.step_data.Statement.{statement}
 use Rattle.loader.proofs.turn.step_data.Tie as tie
 

@@ -3,8 +3,8 @@
 use native.Mathlib.Omega.{arith}
 use borrow.Author.Needs.{needs}
 use denote.Ref.{now}
-use Rattle.parts.specs.Figures.{length-fits}
-use Rattle.loader.specs.Turn.{fill-turn}
+use Rattle.parts.specs.Laws.Figures.{length-fits}
+use Rattle.loader.specs.Inner.Turn.{fill-turn}
 use Rattle.loader.proofs.turn.step_fill.Statement.{statement}
 use Rattle.loader.proofs.turn.step_fill.Tie as tie
 

@@ -2,8 +2,8 @@
 -- By the turn of what the control machine makes of the word, which `finish` applies.
 use borrow.Author.Needs.{needs}
 use denote.Ref.{now}
-use Rattle.parts.specs.Figures.{length-fits}
-use Rattle.loader.specs.Turn.{word-turn, fed-turn}
+use Rattle.parts.specs.Laws.Figures.{length-fits}
+use Rattle.loader.specs.Inner.Turn.{word-turn, transition-turn}
 use Rattle.loader.proofs.turn.step_word.Statement.{statement}
 use Rattle.loader.proofs.turn.step_word.Tie as tie
 
@@ -24,7 +24,7 @@ returns c =
     let s = c .before .before .before .before .before .before .before .before .before in
     let a = s .args in
     let f = c .before .before .finish .ensures in
-    fed-turn (rw (c .before .before .before .before .before .before .word-at .ensures) at (c .before .before .before .before .before .word .ensures)) (s .pre .3) (f .0) (f .1 .0) (f .1 .1)
+    transition-turn (rw (c .before .before .before .before .before .before .word-at .ensures) at (c .before .before .before .before .before .word .ensures)) (s .pre .3) (f .0) (f .1 .0) (f .1 .1)
     (word-turn (a .phase) (a .control) (now (a .frame)) (now (a .memory)) (now (a .bytes)) (a .i) (s .pre .1) (s .pre .2) (s .pre .0))
 
 pub step-word-spec : {M : Type 1} → statement M

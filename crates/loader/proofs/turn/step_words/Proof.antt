@@ -2,7 +2,7 @@
 -- By the turns of the steps, once the phase is known.
 use native.Mathlib.Omega.{arith}
 use borrow.Author.Needs.{needs}
-use Rattle.loader.specs.Words.{takesWords}
+use Rattle.loader.specs.Laws.WordRun.{takesWords}
 use Rattle.loader.proofs.turn.step_words.Statement.{statement}
 use Rattle.loader.proofs.turn.step_words.Tie as tie
 

@@ -6,8 +6,8 @@ use native.Mathlib.Omega.{arith}
 use lib.ListN.{drop}
 use borrow.Author.Needs.{needs}
 use Rattle.parts.specs.Columns.{runs, columnsOf, columns}
-use Rattle.parts.specs.Address.{addressIn}
-use Rattle.parts.specs.Runs.{runs-found, runs-past, runs-end, runs-placed}
+use Rattle.parts.specs.FrameAddress.{addressIn}
+use Rattle.parts.specs.Inner.ColumnRuns.{runs-found, runs-past, runs-end, runs-fit}
 use Rattle.parts.proofs.frame.address_in.Statement.{statement}
 use Rattle.parts.proofs.frame.address_in.Tie as tie
 
@@ -24,7 +24,7 @@ run-at-requires : tie.Need-run-at-requires Inv-loop μ-loop
 run-at-requires c κs = search needs
 
 search-run-requires : tie.Need-search-run-requires Inv-loop μ-loop
-search-run-requires c κs = rw (c .run-at .ensures) (runs-placed _ (c .before .before .before .pre) _ (omega arith))
+search-run-requires c κs = rw (c .run-at .ensures) (runs-fit _ (c .before .before .before .pre) _ (omega arith))
 
 enum-known-s : tie.Need-enum-known-s Inv-loop μ-loop
 enum-known-s c = search needs

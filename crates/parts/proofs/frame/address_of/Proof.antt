@@ -2,7 +2,7 @@
 -- By linear arithmetic.
 use native.Mathlib.Omega.{arith}
 use borrow.Author.Needs.{needs}
-use Rattle.parts.specs.Address.{address}
+use Rattle.parts.specs.FrameAddress.{address}
 use Rattle.parts.proofs.frame.address_of.Statement.{statement}
 use Rattle.parts.proofs.frame.address_of.Tie as tie
 

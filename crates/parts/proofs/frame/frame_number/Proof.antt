@@ -2,8 +2,8 @@
 -- By the law of the lookup in each of the two cases of the part.
 use mathlib.Core.Path.{_∙_, sym}
 use borrow.Author.Needs.{needs}
-use Rattle.parts.specs.Table.{known-limits}
-use Rattle.parts.specs.Frames.{number-known, number-unknown}
+use Rattle.parts.specs.Laws.PrintedFigures.{known-limits}
+use Rattle.parts.specs.Laws.FrameNumbers.{number-known, number-unknown}
 use Rattle.parts.proofs.frame.frame_number.Statement.{statement}
 use Rattle.parts.proofs.frame.frame_number.Tie as tie
 

@@ -2,7 +2,7 @@
 -- By computation, with the tests that led to each answer.
 use borrow.Author.Needs.{needs}
 use borrow.Author.Tests.{eq-eqb, ne-eqb, lt-ltb, le-ltb, le-leb, lt-leb}
-use Rattle.parts.specs.Runs.{inRun}
+use Rattle.parts.specs.Inner.ColumnRuns.{inRun}
 use Rattle.parts.proofs.frame.in_run.Statement.{statement}
 use Rattle.parts.proofs.frame.in_run.Tie as tie
 

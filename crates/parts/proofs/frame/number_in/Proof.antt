@@ -5,12 +5,12 @@ use Prim.Native.Nat.{_+_, _-_, _*_, _≤_, _<_}
 use native.Mathlib.Omega.{arith}
 use lib.ListN.{drop}
 use borrow.Author.Needs.{needs}
-use Rattle.parts.specs.Device.{frameCount}
-use Rattle.parts.specs.Table.{count-limit}
+use Rattle.parts.specs.Table.{frameCount}
+use Rattle.parts.specs.Laws.PrintedFigures.{count-limit}
 use Rattle.parts.specs.Columns.{runs, columnsOf, columns, total}
-use Rattle.parts.specs.Address.{numberIn}
-use Rattle.parts.specs.Runs.{in-run-frame, in-run-below, runs-number, runs-no-number, runs-total, runs-end, runs-placed}
-use Rattle.parts.specs.Frames.{frames-total}
+use Rattle.parts.specs.FrameAddress.{numberIn}
+use Rattle.parts.specs.Inner.ColumnRuns.{in-run-frame, in-run-below, runs-number, runs-no-number, runs-total, runs-end, runs-fit}
+use Rattle.parts.specs.Laws.FrameNumbers.{frames-total}
 use Rattle.parts.proofs.frame.number_in.Statement.{statement}
 use Rattle.parts.proofs.frame.number_in.Tie as tie
 
@@ -29,7 +29,7 @@ run-at-requires : tie.Need-run-at-requires Inv-loop μ-loop
 run-at-requires c κs = search needs
 
 in-run-requires : tie.Need-in-run-requires Inv-loop μ-loop
-in-run-requires c κs = rw (c .run-at .ensures) (runs-placed _ (c .before .before .before .pre) _ (omega arith))
+in-run-requires c κs = rw (c .run-at .ensures) (runs-fit _ (c .before .before .before .pre) _ (omega arith))
 
 -- the next run has the frame: its number is under F
 found : (c : tie.Then1 Inv-loop μ-loop) →

@@ -6,9 +6,9 @@ use Prim.Native.Nat.{_+_, _-_, _≤_}
 use native.Mathlib.Omega.{arith}
 use borrow.Author.Needs.{needs}
 use Rattle.parts.specs.Columns.{Column, columnsFrom}
-use Rattle.parts.specs.Address.{addressIn}
+use Rattle.parts.specs.FrameAddress.{addressIn}
 use Rattle.parts.specs.declared.frame.AddressAnswer.the-variants as AddressAnswer
-use Rattle.parts.specs.Runs.{resumed, run-here, run-later, run-end, run-past}
+use Rattle.parts.specs.Inner.ColumnRuns.{resumed, run-here, run-later, run-end, run-past}
 use Rattle.parts.proofs.frame.search_run.Statement.{statement}
 use Rattle.parts.proofs.frame.search_run.Tie as tie
 

@@ -7,9 +7,9 @@ use native.Mathlib.Nat.{add-zero, sub-zero}
 use lib.ListN.{length, take, drop, length-set}
 use lib.Seq.{sets}
 use denote.Ref.{now}
-use Rattle.parts.specs.Placing.{placed-sets}
-use Rattle.reference.specs.Copy.{copy-next}
-use Rattle.reference.specs.Doing.{frame-size}
+use Rattle.parts.specs.Laws.FramePlacing.{placed-sets}
+use Rattle.reference.specs.Inner.ByteCopy.{copy-next}
+use Rattle.reference.specs.Inner.MachineTurns.{frame-size}
 use Rattle.reference.proofs.copy.copy_frame.Statement.{statement}
 use Rattle.reference.proofs.copy.copy_frame.Tie as tie
 

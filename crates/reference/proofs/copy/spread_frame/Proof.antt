@@ -6,9 +6,9 @@ use native.Mathlib.Omega.{arith}
 use lib.ListN.{length, take, drop}
 use borrow.Author.Needs.{needs}
 use denote.Ref.{now}
-use Rattle.layout.specs.Machine.{spread}
-use Rattle.reference.specs.Doing.{spread-one, spread-none}
-use Rattle.layout.specs.Targets.{numbersAt, Roomy, numbers-none, numbers-value, numbers-refused}
+use Rattle.layout.specs.ReferenceMachine.{spread}
+use Rattle.reference.specs.Inner.MachineTurns.{spread-one, spread-none}
+use Rattle.layout.specs.Inner.TargetNumbers.{numbersAt, Roomy, numbers-none, numbers-value, numbers-refused}
 use Rattle.reference.proofs.copy.spread_frame.Statement.{statement}
 use Rattle.reference.proofs.copy.spread_frame.Tie as tie
 

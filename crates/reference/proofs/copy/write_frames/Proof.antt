@@ -5,10 +5,10 @@ use Prim.Native.Nat.{_+_, _-_, _*_, _≤_}
 use native.Mathlib.Omega.{arith}
 use lib.ListN.{length, drop}
 use denote.Ref.{now}
-use Rattle.parts.specs.Placing.{frame-end}
+use Rattle.parts.specs.Laws.FramePlacing.{frame-end}
 use Rattle.layout.specs.Step.{frames}
-use Rattle.layout.specs.Machine.{written}
-use Rattle.reference.specs.Doing.{room, write-one, write-none}
+use Rattle.layout.specs.ReferenceMachine.{written}
+use Rattle.reference.specs.Inner.MachineTurns.{room, write-one, write-none}
 use Rattle.reference.proofs.copy.write_frames.Statement.{statement}
 use Rattle.reference.proofs.copy.write_frames.Tie as tie
 

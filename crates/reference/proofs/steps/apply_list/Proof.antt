@@ -3,9 +3,9 @@
 use mathlib.Core.Path.{_∙_, sym}
 use borrow.Author.Needs.{needs}
 use denote.Ref.{now}
-use Rattle.parts.specs.Device.{lengthAt, countAt}
-use Rattle.layout.specs.Range.{owns}
-use Rattle.layout.specs.Accepting.{steps-from, none-from, machine-read}
+use Rattle.parts.specs.Table.{lengthAt, countAt}
+use Rattle.layout.specs.Ownership.{owns}
+use Rattle.layout.specs.Laws.AcceptedLayout.{steps-from, none-from, machine-read}
 use Rattle.reference.proofs.steps.apply_list.Statement.{statement}
 use Rattle.reference.proofs.steps.apply_list.Tie as tie
 

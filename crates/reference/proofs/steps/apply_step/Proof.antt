@@ -4,10 +4,10 @@ use mathlib.Core.Path.{subst}
 use lib.ListN.{length}
 use borrow.Author.Needs.{needs}
 use denote.Ref.{now}
-use Rattle.layout.specs.Reader.{stepOffset}
-use Rattle.layout.specs.First.{stepOf, StepBytes}
-use Rattle.layout.specs.Machine.{done, allDone}
-use Rattle.reference.specs.List.{StepRoom}
+use Rattle.layout.specs.StepReading.{stepOffset}
+use Rattle.layout.specs.Inner.FirstStep.{stepOf, StepBytes}
+use Rattle.layout.specs.ReferenceMachine.{done, allDone}
+use Rattle.reference.specs.Inner.StepList.{StepRoom}
 use Rattle.reference.proofs.steps.apply_step.Statement.{statement}
 use Rattle.reference.proofs.steps.apply_step.Tie as tie
 

@@ -6,14 +6,14 @@ use native.Mathlib.Omega.{arith}
 use lib.ListN.{length}
 use borrow.Author.Needs.{needs}
 use denote.Ref.{now}
-use Rattle.parts.specs.Device.{lengthAt, countAt}
-use Rattle.parts.specs.Figures.{length-fits, memory-size}
-use Rattle.layout.specs.Range.{owns}
-use Rattle.layout.specs.Reader.{stepsAt}
-use Rattle.layout.specs.Machine.{madeOf}
-use Rattle.layout.specs.Accepting.{isRead}
-use Rattle.layout.specs.First.{step-bytes}
-use Rattle.reference.specs.List.{none-done, step-made, step-roomy}
+use Rattle.parts.specs.Table.{lengthAt, countAt}
+use Rattle.parts.specs.Laws.Figures.{length-fits, memory-size}
+use Rattle.layout.specs.Ownership.{owns}
+use Rattle.layout.specs.StepReading.{stepsAt}
+use Rattle.layout.specs.ReferenceMachine.{madeOf}
+use Rattle.layout.specs.Laws.AcceptedLayout.{isRead}
+use Rattle.layout.specs.Inner.FirstStep.{step-bytes}
+use Rattle.reference.specs.Inner.StepList.{none-done, step-made, step-roomy}
 use Rattle.reference.proofs.steps.apply_steps.Statement.{statement}
 use Rattle.reference.proofs.steps.apply_steps.Tie as tie
 

@@ -7,7 +7,7 @@ use denote.Triple.Spec.{tripleOf}
 use denote.Triple.Table.{cited}
 use Rattle.layout.proofs.step.StepAt as S
 use Rattle.layout.proofs.step.StepAt.Laws as S′
-use Rattle.layout.specs.Reader.{deskStep}
+use Rattle.layout.specs.StepReading.{deskStep}
 use Rattle.layout.specs.LayoutReader.{step}
 use Rattle.layout.proofs.step.step_at as callee
 use Rattle.layout.proofs.step.step_at.Symbol as callee-def

@@ -1,0 +1,39 @@
+-- The reference machine, which does a layout's steps on the frames of a memory.
+-- Source: 01, "Layouts", second paragraph: "Demand 3 does the steps on a plain machine: F frames of 4·L bytes, at first the
+-- memory before the load. It is fed the part and the layout, and sees no record and no stream. Each step works on what the last one left."
+use Prim.Native.Nat.{ℕ, _+_}
+use mathlib.Core.List.{List, [], _∷_}
+use Rattle.parts.specs.Table.{lengthAt, countAt}
+use Rattle.parts.specs.FrameMemory.{placed}
+use Rattle.layout.specs.Ownership.{range, owns}
+use Rattle.layout.specs.Step.{Step, FrameWrite, MultiFrameWrite, Reading, Read, Refused}
+use Rattle.layout.specs.Layout.{layoutRead}
+
+module _ (l : ℕ) where
+  -- "Kind 1 at first frame f: for each i under k, frame f+i becomes the step's frame i"
+  unfoldable pub written : ℕ → List (List ℕ) → List ℕ → List ℕ
+  written n [] m = m
+  written n (x ∷ xs) m = written (n + 1) xs (placed l n x m)
+
+  -- "Kind 2: each target becomes the step's one frame"
+  unfoldable pub spread : List ℕ → List ℕ → List ℕ → List ℕ
+  spread x [] m = m
+  spread x (t ∷ ts) m = spread x ts (placed l t x m)
+
+  unfoldable pub done : Step → List ℕ → List ℕ
+  done (FrameWrite n fs) m = written n fs m
+  done (MultiFrameWrite x ts) m = spread x ts m
+
+  -- "Each step works on what the last one left"; "after no steps, all" frames stay
+  unfoldable pub allDone : List Step → List ℕ → List ℕ
+  allDone [] m = m
+  allDone (s ∷ ss) m = allDone ss (done s m)
+
+  -- "A refused layout has no stream and does nothing"
+  unfoldable pub madeOf : Reading (List Step) → List ℕ → List ℕ
+  madeOf (Reading.Read ss next) m = allDone ss m
+  madeOf (Reading.Refused c at) m = m
+
+-- "It is fed the part and the layout": it reads the layout for the whole part
+abbrev pub machine : ℕ → List ℕ → List ℕ → List ℕ
+machine d b m = madeOf (lengthAt d) (layoutRead (lengthAt d) (countAt d) (owns (range 0 (countAt d))) b d) m

@@ -1,0 +1,1 @@
+pub mod ShortestForm  -- each number has one accepted form, the shortest

@@ -1,0 +1,1 @@
+pub mod EveryPhase  -- a consistent record of each of the five phases

@@ -1,0 +1,73 @@
+-- `record_image::words::put_word` meets its contract: four stores in a row are the run of stores of the four bytes.
+-- By computation, with the places counted by one.
+use mathlib.Core.Path.{_≡_}
+use Prim.Native.Nat.{suc, _+_}
+use lib.ListN.{length-set}
+use Rattle.parts.specs.FrameMemory.{bytesOf}
+use borrow.Author.Needs.{needs}
+use native.Mathlib.Omega.{arith}
+use Rattle.record_image.proofs.words.put_word.Statement.{statement}
+use Rattle.record_image.proofs.words.put_word.Tie as tie
+
+cast-image : tie.Need-cast-image
+cast-image c = search needs
+
+slice-write-image : tie.Need-slice-write-image
+slice-write-image c = search needs
+
+cast-image-2 : tie.Need-cast-image-2
+cast-image-2 c = search needs
+
+add-image : tie.Need-add-image
+add-image c = search needs
+
+slice-write-image-2 : tie.Need-slice-write-image-2
+slice-write-image-2 c = simp length-set (omega arith)
+
+cast-image-3 : tie.Need-cast-image-3
+cast-image-3 c = search needs
+
+add-image-2 : tie.Need-add-image-2
+add-image-2 c = search needs
+
+slice-write-image-3 : tie.Need-slice-write-image-3
+slice-write-image-3 c = simp length-set (omega arith)
+
+cast-image-4 : tie.Need-cast-image-4
+cast-image-4 c = search needs
+
+add-image-3 : tie.Need-add-image-3
+add-image-3 c = search needs
+
+slice-write-image-4 : tie.Need-slice-write-image-4
+slice-write-image-4 c = simp length-set (omega arith)
+
+same-length : tie.Need-same-length
+same-length c = simp length-set
+
+returns : tie.Need-returns
+unfolding bytesOf
+returns c =
+    let a = c .args .at in
+    let e1 : a + 1 ≡ suc a = omega arith in
+    let e2 : a + 2 ≡ suc (suc a) = omega arith in
+    let e3 : a + 3 ≡ suc (suc (suc a)) = omega arith in
+    rw (e1, e2, e3)
+
+pub put-word-spec : {M : Type 1} → statement M
+put-word-spec =
+    tie.close
+    (tie.spec
+    cast-image
+    slice-write-image
+    cast-image-2
+    add-image
+    slice-write-image-2
+    cast-image-3
+    add-image-2
+    slice-write-image-3
+    cast-image-4
+    add-image-3
+    slice-write-image-4
+    same-length
+    returns)

@@ -1,0 +1,144 @@
+-- The record that bytes would be the image of: total, with any reading for numbers that name nothing.
+-- Source: docs/C-INTERFACE.md, "The record's image, edition 1"; each definition cites its row of the table.
+use Prim.Native.Nat.{ℕ, zero, suc, _+_, _*_, _-_, _/_, _%_, _^_}
+use mathlib.Core.List.{List, [], _∷_}
+use mathlib.Core.Bool.{cond}
+use lib.Dec.{eqb}
+use lib.ListN.{getD}
+use Rattle.config.specs.StreamBytes.{wordOf}
+use Rattle.registers.specs.RegisterAddresses.{registerAt}
+use Rattle.registers.specs.declared.Register.{Register}
+use Rattle.registers.specs.declared.RegisterAnswer.{RegisterAnswer}
+use Rattle.registers.specs.declared.RegisterAnswer.the-variants as RegisterAnswer
+use Rattle.registers.specs.declared.Register.the-variants as Register
+use Rattle.config.specs.declared.Open.{Open}
+use Rattle.config.specs.declared.Open.the-variants as Open
+use Rattle.answers.specs.declared.Stop.{Stop}
+use Rattle.answers.specs.declared.Stop.the-variants as Stop
+use Rattle.config.specs.declared.PartialWord.{PartialWord}
+use Rattle.config.specs.declared.PartialWord.the-variants as PartialWord
+use Rattle.config.specs.declared.Current.{Current}
+use Rattle.config.specs.declared.Current.the-variants as Current
+use Rattle.config.specs.declared.Flags.{Flags}
+use Rattle.config.specs.declared.Registers.{Registers}
+use Rattle.config.specs.declared.Control.{Control}
+use Rattle.config.specs.declared.Phase.{Phase}
+use Rattle.config.specs.declared.Phase.the-variants as Phase
+use Rattle.record.specs.declared.Record.{Record}
+
+-- "words of 32 bits, high byte first"; bytes that are missing are 0
+unfoldable pub wordAt : List ℕ → ℕ → ℕ
+wordAt bytes k = wordOf (getD bytes (4 * k) 0) (getD bytes (4 * k + 1) 0) (getD bytes (4 * k + 2) 0) (getD bytes (4 * k + 3) 0)
+
+-- n words from word k on
+unfoldable pub wordsAt : List ℕ → ℕ → ℕ → List ℕ
+wordsAt bytes k zero = []
+wordsAt bytes k (suc n) = wordAt bytes k ∷ wordsAt bytes (suc k) n
+
+-- ---- words 1 to 6: the phase
+
+-- the register that a type 2 header would use, if there is one
+unfoldable pub openAfter : RegisterAnswer → Open
+openAfter (RegisterAnswer.Writable r) = Open.After r
+openAfter RegisterAnswer.NotWritable = Open.Closed
+
+-- 2, header: "the register that a type 2 header would use, plus 1, or 0 for none"
+unfoldable pub openOf : ℕ → Open
+openOf n = cond (eqb n 0) Open.Closed (openAfter (registerAt (n - 1)))
+
+-- the register that was found, CRC where there is none
+unfoldable pub registerFound : RegisterAnswer → Register
+registerFound (RegisterAnswer.Writable r) = r
+registerFound RegisterAnswer.NotWritable = Register.Crc
+
+-- 2, data: "the register", CRC for an address of none that can be written
+unfoldable pub registerOf : ℕ → Register
+registerOf n = registerFound (registerAt n)
+
+-- 2, stopped: "the stop number", the last stop for any other number
+unfoldable pub stopOf : ℕ → Stop
+stopOf n =
+    cond (eqb n 1) Stop.BadHeader
+    (cond (eqb n 2) Stop.BadRegister
+    (cond (eqb n 3) Stop.ReadOperation
+    (cond (eqb n 4) Stop.WrongIdcode
+    (cond (eqb n 5) Stop.WrongFrameLength
+    (cond (eqb n 6) Stop.NotReady
+    (cond (eqb n 7) Stop.WrongCount
+    (cond (eqb n 8) Stop.CrcMismatch
+    (cond (eqb n 9) Stop.NoCurrentFrame Stop.UnknownCommand))))))))
+
+-- 5 and 6: "how many bytes", 3 for any number over 2; "those bytes as one number, the first byte highest"
+unfoldable pub pendingOf : ℕ → ℕ → PartialWord
+pendingOf count number =
+    cond (eqb count 0) PartialWord.Zero
+    (cond (eqb count 1) (PartialWord.One (number % 2 ^ 8))
+    (cond (eqb count 2) (PartialWord.Two (number / 2 ^ 8 % 2 ^ 8) (number % 2 ^ 8))
+    (PartialWord.Three (number / 2 ^ 16 % 2 ^ 8) (number / 2 ^ 8 % 2 ^ 8) (number % 2 ^ 8))))
+
+-- 1 to 4: "phase: 0 hunting, 1 header, 2 data, 3 crc, 4 stopped", stopped for any other number
+unfoldable pub phaseOf : ℕ → ℕ → ℕ → ℕ → PartialWord → Phase
+phaseOf number subject left filled window =
+    cond (eqb number 0) (Phase.Hunting window)
+    (cond (eqb number 1) (Phase.Header (openOf subject))
+    (cond (eqb number 2) (Phase.Data (registerOf subject) left filled)
+    (cond (eqb number 3) Phase.Crc (Phase.Stopped (stopOf subject)))))
+
+-- 5 and 6: "the partial word, or ... the sync window while hunting", when the partial word is empty
+unfoldable pub partialOf : ℕ → PartialWord → PartialWord
+partialOf number bytes = cond (eqb number 0) PartialWord.Zero bytes
+
+-- ---- words 7 to 23: control state
+
+-- 7: "current frame, FFFFFFFF for none"
+unfoldable pub currentOf : ℕ → Current
+currentOf n = cond (eqb n 0xFFFFFFFF) Current.NoFrame (Current.Frame n)
+
+-- 8: "bit 0 IDCODE accepted, 1 FLR accepted, 2 a frame in the buffer, 3 GHIGH, 4 start pending, 5 a check has passed since START (or
+-- power-on), 6 started"
+abbrev pub flagsOf : ℕ → Flags
+flagsOf n = record {
+  «idcode_ok» = eqb (n % 2) 1;
+  «flr_ok» = eqb (n / 2 % 2) 1;
+  «buffer_valid» = eqb (n / 4 % 2) 1;
+  ghigh = eqb (n / 8 % 2) 1;
+  «start_pending» = eqb (n / 16 % 2) 1;
+  «check_passed» = eqb (n / 32 % 2) 1;
+  started = eqb (n / 64 % 2) 1;
+}
+
+-- 9 to 23: "registers 0 to 14 at their addresses; 9 is the CRC register"
+unfoldable pub registersOf : List ℕ → Registers
+registersOf bytes = record {
+  crc = wordAt bytes 9;
+  far = wordAt bytes 10;
+  fdri = wordAt bytes 11;
+  cmd = wordAt bytes 13;
+  ctl = wordAt bytes 14;
+  mask = wordAt bytes 15;
+  lout = wordAt bytes 17;
+  cor = wordAt bytes 18;
+  mfwr = wordAt bytes 19;
+  flr = wordAt bytes 20;
+  idcode = wordAt bytes 23;
+}
+
+-- 0: "device number"
+unfoldable pub controlOf : List ℕ → PartialWord → Control
+controlOf bytes partial = record {
+  device = wordAt bytes 0;
+  registers = registersOf bytes;
+  flags = flagsOf (wordAt bytes 8);
+  current = currentOf (wordAt bytes 7);
+  partial = partial;
+}
+
+-- ---- the record
+
+-- 24 to 236: "the frame buffer's 213 words"
+unfoldable pub decoded : List ℕ → Record
+decoded bytes = record {
+  phase = phaseOf (wordAt bytes 1) (wordAt bytes 2) (wordAt bytes 3) (wordAt bytes 4) (pendingOf (wordAt bytes 5) (wordAt bytes 6));
+  control = controlOf bytes (partialOf (wordAt bytes 1) (pendingOf (wordAt bytes 5) (wordAt bytes 6)));
+  frame = wordsAt bytes 24 213;
+}

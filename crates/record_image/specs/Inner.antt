@@ -1,0 +1,1 @@
+pub mod ImageStores  -- runs of stores and of comparisons

@@ -1,0 +1,195 @@
+// Bytes into the device record that they would be the image of.
+use crate::words::word_at;
+use answers::Stop;
+use config::Control;
+use config::Current;
+use config::Flags;
+use config::Open;
+use config::PartialWord;
+use config::Phase;
+use config::Registers;
+use record::FrameBuffer;
+use record::Record;
+use registers::Register;
+use registers::RegisterAnswer;
+ghost use mathlib.Core.Path.{_≡_};
+ghost use Rattle.record_image.specs.Decode.{openOf, registerOf, stopOf, pendingOf, phaseOf, partialOf, currentOf, flagsOf, registersOf, controlOf, wordsAt, decoded};
+
+// Word 2 of a header.
+fn open_of(number: u32) -> Open
+    ensures { λ r. ⌜ r ≡ openOf number ⌝ }
+{
+    if number == 0 {
+        return Open::Closed;
+    }
+    let found = registers::register_at(number - 1);
+    match found {
+        RegisterAnswer::Writable(register) => Open::After(register),
+        RegisterAnswer::NotWritable => Open::Closed,
+    }
+}
+
+// Word 2 in data.
+fn register_of(number: u32) -> Register
+    ensures { λ r. ⌜ r ≡ registerOf number ⌝ }
+{
+    let found = registers::register_at(number);
+    match found {
+        RegisterAnswer::Writable(register) => register,
+        RegisterAnswer::NotWritable => Register::Crc,
+    }
+}
+
+// Word 2 of a stopped device.
+fn stop_of(number: u32) -> Stop
+    ensures { λ r. ⌜ r ≡ stopOf number ⌝ }
+{
+    match number {
+        1 => Stop::BadHeader,
+        2 => Stop::BadRegister,
+        3 => Stop::ReadOperation,
+        4 => Stop::WrongIdcode,
+        5 => Stop::WrongFrameLength,
+        6 => Stop::NotReady,
+        7 => Stop::WrongCount,
+        8 => Stop::CrcMismatch,
+        9 => Stop::NoCurrentFrame,
+        _ => Stop::UnknownCommand,
+    }
+}
+
+// Words 5 and 6.
+fn pending_of(count: u32, number: u32) -> PartialWord
+    ensures { λ r. ⌜ r ≡ pendingOf count number ⌝ }
+{
+    let a = (number / 65536 % 256) as u8;
+    let b = (number / 256 % 256) as u8;
+    let c = (number % 256) as u8;
+    match count {
+        0 => PartialWord::Zero,
+        1 => PartialWord::One(c),
+        2 => PartialWord::Two(b, c),
+        _ => PartialWord::Three(a, b, c),
+    }
+}
+
+// Words 1 to 4.
+fn phase_of(number: u32, subject: u32, left: u32, filled: u32, window: PartialWord) -> Phase
+    ensures { λ r. ⌜ r ≡ phaseOf number subject left filled window ⌝ }
+{
+    match number {
+        0 => Phase::Hunting(window),
+        1 => Phase::Header(open_of(subject)),
+        2 => Phase::Data {
+            register: register_of(subject),
+            left: left,
+            filled: filled,
+        },
+        3 => Phase::Crc,
+        _ => Phase::Stopped(stop_of(subject)),
+    }
+}
+
+// The partial word, which is empty while hunting.
+fn partial_of(number: u32, bytes: PartialWord) -> PartialWord
+    ensures { λ r. ⌜ r ≡ partialOf number bytes ⌝ }
+{
+    if number == 0 {
+        PartialWord::Zero
+    } else {
+        bytes
+    }
+}
+
+// Word 7.
+fn current_of(number: u32) -> Current
+    ensures { λ r. ⌜ r ≡ currentOf number ⌝ }
+{
+    if number == 0xFFFFFFFF {
+        Current::NoFrame
+    } else {
+        Current::Frame(number)
+    }
+}
+
+// Word 8.
+fn flags_of(number: u32) -> Flags
+    ensures { λ r. ⌜ r ≡ flagsOf number ⌝ }
+{
+    Flags {
+        idcode_ok: number % 2 == 1,
+        flr_ok: number / 2 % 2 == 1,
+        buffer_valid: number / 4 % 2 == 1,
+        ghigh: number / 8 % 2 == 1,
+        start_pending: number / 16 % 2 == 1,
+        check_passed: number / 32 % 2 == 1,
+        started: number / 64 % 2 == 1,
+    }
+}
+
+// Words 9 to 23.
+fn registers_of(image: &[u8]) -> Registers
+    ensures { λ r. ⌜ r ≡ registersOf (now (image .entry)) ⌝ }
+{
+    Registers {
+        crc: word_at(image, 9),
+        far: word_at(image, 10),
+        fdri: word_at(image, 11),
+        cmd: word_at(image, 13),
+        ctl: word_at(image, 14),
+        mask: word_at(image, 15),
+        lout: word_at(image, 17),
+        cor: word_at(image, 18),
+        mfwr: word_at(image, 19),
+        flr: word_at(image, 20),
+        idcode: word_at(image, 23),
+    }
+}
+
+// Words 0 and 7 to 23, around a partial word.
+fn control_of(image: &[u8], partial: PartialWord) -> Control
+    ensures { λ r. ⌜ r ≡ controlOf (now (image .entry)) partial ⌝ }
+{
+    Control {
+        device: word_at(image, 0),
+        registers: registers_of(image),
+        flags: flags_of(word_at(image, 8)),
+        current: current_of(word_at(image, 7)),
+        partial: partial,
+    }
+}
+
+// Words 24 to 236.
+fn frame_of(image: &[u8]) -> FrameBuffer
+    ensures { λ r. ⌜ r ≡ wordsAt (now (image .entry)) 24 213 ⌝ }
+{
+    let mut frame = [0u32; 213];
+    let mut i: usize = 0;
+    while i < 213 {
+        frame[i] = word_at(image, 24 + i);
+        i += 1;
+    }
+    frame
+}
+
+// The record that bytes would be the image of.
+pub fn decode(image: &[u8]) -> Record
+    ensures { λ r. ⌜ r ≡ decoded (now (image .entry)) ⌝ }
+{
+    let number = word_at(image, 1);
+    let bytes = pending_of(word_at(image, 5), word_at(image, 6));
+    let phase = phase_of(
+        number,
+        word_at(image, 2),
+        word_at(image, 3),
+        word_at(image, 4),
+        bytes,
+    );
+    let control = control_of(image, partial_of(number, bytes));
+    let frame = frame_of(image);
+    Record {
+        phase: phase,
+        control: control,
+        frame: frame,
+    }
+}

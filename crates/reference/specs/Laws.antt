@@ -1,0 +1,1 @@
+pub mod FramesKept  -- an accepted layout changes no frame outside the range, and a refused one no byte
