@@ -177,10 +177,30 @@ fn is_told(edit: &str) -> bool {
     let Some((_, folders)) = KINDS.iter().find(|(kind, _)| says(changes, kind)) else {
         return false;
     };
-    let mut files = rest.iter().filter_map(|line| line.strip_prefix("file: "));
+    let files = rest.iter().filter_map(|line| line.strip_prefix("file: "));
+    let files: Vec<&str> = files.collect();
     says(refused, "# refused by ")
         && !rest.iter().any(|line| line.starts_with('#'))
-        && files.all(|file| folders.iter().any(|folder| file.starts_with(folder)))
+        && !files.is_empty()
+        && files
+            .iter()
+            .all(|file| folders.iter().any(|folder| file.starts_with(folder)))
+}
+
+#[test]
+fn an_edit_that_says_too_little_is_told() {
+    let good = "# changes the code: 1 for 0\n# refused by `f`\nfile: src/lib.rt\nold: 0\nnew: 1\n";
+    assert!(is_told(good));
+    for (from, to) in [
+        ("# changes the code: 1 for 0\n", ""),
+        ("1 for 0", ""),
+        ("refused by `f`", "refused"),
+        ("the code", "a definition"),
+        ("file: src/lib.rt\n", ""),
+        ("new: 1", "# a remark\nnew: 1"),
+    ] {
+        assert!(!is_told(&good.replace(from, to)), "{from:?} for {to:?}");
+    }
 }
 
 #[test]

@@ -4,7 +4,7 @@ use seamwillow_tests::generate::random::{self, Random};
 use seamwillow_tests::generate::{guided, memories, records};
 use seamwillow_tests::harness::counts::Counts;
 use seamwillow_tests::harness::sides::{assert_same, compare, End, State, INDEPENDENT, PROVED};
-use seamwillow_tests::independent::loader::{Device, RECORD_BYTES};
+use seamwillow_tests::independent::loader::{Record, RECORD_BYTES};
 use seamwillow_tests::independent::names::{field, flag};
 use seamwillow_tests::independent::reference::{Lookups, PARTS};
 
@@ -78,12 +78,12 @@ fn compare_streams(seed: u64, count: u64, record: impl Fn(&mut Random, u32) -> V
         let mut random = Random::of_case(seed, case);
         let device = some_device(&mut random);
         let start = memories.state(device, record(&mut random, device));
-        let decoded = Device::decode(&start.record).expect("the record is consistent");
+        let decoded = Record::decode(&start.record).expect("the record is consistent");
         let scratch = &mut memories.scratch[device as usize];
         let stream = guided::stream(&mut random, &lookups, decoded, scratch);
         let case = format!("seed {seed}, case {case}");
         let end = compare(&mut random, &start, &stream, &case);
-        assert!(Device::decode(&end.state.record).is_some(), "{case}");
+        assert!(Record::decode(&end.state.record).is_some(), "{case}");
         coverage.note(&start, &end);
     }
     coverage.assert_deep();

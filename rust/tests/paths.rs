@@ -27,6 +27,12 @@ fn paths(text: &str) -> impl Iterator<Item = &str> {
     })
 }
 
+/// The files of proofs and definitions that a text names without a folder.
+fn bare_names(text: &str) -> impl Iterator<Item = &str> {
+    let spans = text.split('`').skip(1).step_by(2);
+    spans.filter(|span| span.ends_with(".antt") && !span.contains(['/', ' ', ':']))
+}
+
 /// A path from the root, or one of a crate's specs, whichever crate the text is about.
 fn is_there(path: &str, specs: &[String]) -> bool {
     place(path).exists()
@@ -49,6 +55,11 @@ fn every_path_is_there() {
             seen += 1;
             if !is_there(path, &specs) {
                 wrong += &format!("{file}: {path}\n");
+            }
+        }
+        for name in bare_names(&read(&file)) {
+            if !specs.iter().any(|file| file.ends_with(&format!("/{name}"))) {
+                wrong += &format!("{file}: {name}\n");
             }
         }
     }

@@ -14,13 +14,15 @@ fn holds_definitions(file: &str) -> bool {
     file.matches('/').count() == 3
 }
 
-/// The file of specs that a line imports from, and the names as the line's file has them.
+/// The file of specs that a line imports from, and the names as the line's file has them; no names
+/// where it imports the file whole.
 fn import(line: &str) -> Option<(String, Vec<&str>)> {
     let (_, line) = line.split_once("use Rattle·")?;
     let (name, line) = line.split_once(".specs.")?;
-    let (path, names) = line.split_once(".{")?;
+    let (path, names) = line.split_once(".{").unwrap_or((line, ""));
+    let path = path.split([' ', ';']).next()?;
     let name = name.split('·').next()?;
-    let names = names.split_once('}')?.0.split(',');
+    let names = names.split('}').next()?.split(',');
     let names = names.filter_map(|name| name.split_whitespace().last());
     let file = format!("crates/{name}/specs/{}.antt", path.replace('.', "/"));
     (!path.starts_with("declared.")).then(|| (file, names.collect()))
@@ -37,7 +39,8 @@ fn cited(code: &str) -> Vec<String> {
         }
     }
     let imports = code.lines().filter_map(import);
-    let cited = imports.filter(|(_, names)| names.iter().any(|name| words.contains(name)));
+    let cited = imports
+        .filter(|(_, names)| names.is_empty() || names.iter().any(|name| words.contains(name)));
     cited.map(|(file, _)| file).collect()
 }
 
@@ -71,15 +74,17 @@ fn reached() -> Vec<(String, String)> {
 #[test]
 fn what_a_public_contract_cites() {
     let code = "\
-ghost use Rattle.parts.specs.Device.{lengthAt};
+ghost use Rattle.parts.specs.Table.{lengthAt};
 ghost use Rattle.parts.specs.Laws.Frames.{inner, total as sum};
-ghost use Rattle.parts.specs.declared.device.Part.{Part};
+ghost use Rattle.parts.specs.Laws.Whole as whole;
+ghost use Rattle.parts.specs.declared.table.Part.{Part};
 pub(crate) fn f()
     ensures { λ r. ⌜ r ≡ lengthAt 0 ⌝ }
 pub fn g()
     ensures { λ r. ⌜ r ≡ (sum Part) ⌝ }
 ";
-    assert_eq!(cited(code), ["crates/parts/specs/Laws/Frames.antt"]);
+    let files = ["Frames", "Whole"].map(|name| format!("crates/parts/specs/Laws/{name}.antt"));
+    assert_eq!(cited(code), files);
 }
 
 #[test]
@@ -98,10 +103,42 @@ fn no_theorem_stands_among_definitions() {
 #[test]
 fn public_contracts_rest_on_definitions() {
     let reached = reached();
-    assert!(reached.len() > 30, "{reached:?}");
     let mut wrong = String::new();
     for (file, by) in reached.iter().filter(|(file, _)| !holds_definitions(file)) {
         wrong += &format!("{by} imports {file}\n");
+    }
+    let reached: BTreeSet<_> = reached.iter().map(|(file, _)| file.as_str()).collect();
+    for file in specs().filter(|file| holds_definitions(file) && !lists_modules(file)) {
+        if !reached.contains(file.as_str()) {
+            wrong += &format!("{file} serves no public contract\n");
+        }
+    }
+    assert!(wrong.is_empty(), "\n{wrong}");
+}
+
+/// The lists of modules, one for the crate and one for each folder of specs.
+const LISTS: [&str; 4] = ["Lib", "Laws", "Inner", "Examples"];
+
+fn lists_modules(file: &str) -> bool {
+    let lists = LISTS.map(|list| format!("/specs/{list}.antt"));
+    lists.iter().any(|list| file.ends_with(list.as_str()))
+}
+
+#[test]
+fn every_file_of_specs_is_in_its_list() {
+    let mut wrong = String::new();
+    for file in specs().filter(|file| !file.ends_with("/specs/Lib.antt")) {
+        let (folder, name) = file
+            .rsplit_once('/')
+            .expect("a file of specs is in a folder");
+        let list = match folder.strip_suffix("/specs") {
+            Some(_) => format!("{folder}/Lib.antt"),
+            None => format!("{folder}.antt"),
+        };
+        let line = format!("pub mod {}  -- ", name.trim_end_matches(".antt"));
+        if !lists_modules(&list) || !read(&list).contains(&line) {
+            wrong += &format!("{file} is not in {list}\n");
+        }
     }
     assert!(wrong.is_empty(), "\n{wrong}");
 }

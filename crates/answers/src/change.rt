@@ -5,8 +5,8 @@ use crate::layout::verdict_value;
 ghost use mathlib.Core.Path.{_≡_};
 ghost use Rattle.answers.specs.Changes.{changeNumber, changeValue};
 
-// Inconsistent: the record. NotHunting: the record is consistent, and does not wait for sync. Judged: memory, range, layout and
-// output, as the compiler judges them.
+// Inconsistent: the record. NotHunting: the record is consistent, and does not wait for sync. Judged: what a verdict
+// says of memory, range, layout and output.
 pub enum Change {
     Inconsistent,
     NotHunting,

@@ -1,1 +1,1 @@
-pub mod EmptyLayout  -- 01's worked streams: the empty layout's 48 bytes, and a frame outside the range
+pub mod WorkedLayouts  -- 01's worked streams: the empty layout's 48 bytes, and a frame outside the range

@@ -39,4 +39,6 @@ commandPhase k p = cond (eqb k DESYNC) (Phase.Hunting PartialWord.Zero) p
 -- command k acts: 01, "The others only stand in CMD"
 unfoldable pub acted : ℕ → Phase → Control → Transition
 acted k p c =
-    transition (commandPhase k p) (withFlags (signalled k (c .flags)) (withRegisters (withCrc (commandCrc k (c .registers .crc)) (c .registers)) c)) Event.Nothing
+    transition (commandPhase k p)
+    (withFlags (signalled k (c .flags)) (withRegisters (withCrc (commandCrc k (c .registers .crc)) (c .registers)) c))
+    Event.Nothing

@@ -7,11 +7,11 @@ use Rattle.parts.specs.declared.frame.NumberAnswer.the-variants as NumberAnswer
 use Rattle.config.specs.declared.Current.{Current}
 use Rattle.config.specs.declared.Current.the-variants as Current
 
-unfoldable pub currentOf : NumberAnswer → Current
-currentOf (NumberAnswer.Number n) = Current.Frame n
-currentOf NumberAnswer.NoFrame = Current.NoFrame
-currentOf NumberAnswer.UnknownDevice = Current.NoFrame
+unfoldable pub currentFrom : NumberAnswer → Current
+currentFrom (NumberAnswer.Number n) = Current.Frame n
+currentFrom NumberAnswer.NoFrame = Current.NoFrame
+currentFrom NumberAnswer.UnknownDevice = Current.NoFrame
 
 -- 01: "A FAR write makes the frame it names the current one, or none"
 abbrev pub named : ℕ → ℕ → Current
-named d a = currentOf (frameNumber d a)
+named d a = currentFrom (frameNumber d a)

@@ -7,7 +7,7 @@ use Rattle.crc16.specs.CrcRegister.{feed}
 use Rattle.parts.specs.Table.{idcodeAt, lengthAt, countAt}
 use Rattle.config.specs.CurrentFrame.{named}
 use Rattle.registers.specs.RegisterAddresses.{isFdri}
-use Rattle.registers.specs.CommandCodes.{LAST}
+use Rattle.registers.specs.CommandCodes.{lastCommand}
 use Rattle.config.specs.RegisterWrites.{withCrc, written}
 use Rattle.config.specs.ControlState.{withRegisters, withFlags, withCurrent, raised, transition, stopped}
 use Rattle.config.specs.PacketHeaders.{headerWord}
@@ -58,7 +58,7 @@ farWord p c w = acted (c .registers .cmd) p (withCurrent (named (c .device) w) (
 
 -- 01, stop 10: "CMD word above 13"
 unfoldable pub cmdWord : Phase → Control → ℕ → Transition
-cmdWord p c w = cond (ltb LAST w) (stopped Stop.UnknownCommand c) (acted w p (put Register.Cmd w c))
+cmdWord p c w = cond (ltb lastCommand w) (stopped Stop.UnknownCommand c) (acted w p (put Register.Cmd w c))
 
 -- ---- frames
 
@@ -77,7 +77,8 @@ frameStored Current.NoFrame left filled c w = stopped Stop.NoCurrentFrame c
 unfoldable pub fdriWord : ℕ → ℕ → Control → ℕ → Transition
 fdriWord left filled c w =
     cond (leb left 1) (transition (ended Register.Fdri) (withFlags (raised Register.Fdri (c .flags)) (put Register.Fdri w c)) (Event.Keep filled w))
-    (cond (ltb (filled + 1) (lengthAt (c .device))) (transition (Phase.Data Register.Fdri (left - 1) (filled + 1)) (put Register.Fdri w c) (Event.Keep filled w))
+    (cond (ltb (filled + 1) (lengthAt (c .device)))
+    (transition (Phase.Data Register.Fdri (left - 1) (filled + 1)) (put Register.Fdri w c) (Event.Keep filled w))
     (frameStored (c .current) left filled c w))
 
 -- 01, "MFWR": "at the second word the frame in hand is stored at the current frame, which doesn't move"
@@ -93,11 +94,17 @@ mfwrWord left filled c w =
 
 -- 01, stop 4: "IDCODE word not the part's"
 unfoldable pub idcodeWord : Phase → Control → ℕ → Transition
-idcodeWord p c w = cond (eqb w (idcodeAt (c .device))) (transition p (withFlags (raised Register.Idcode (c .flags)) (put Register.Idcode w c)) Event.Nothing) (stopped Stop.WrongIdcode c)
+idcodeWord p c w =
+    cond (eqb w (idcodeAt (c .device)))
+    (transition p (withFlags (raised Register.Idcode (c .flags)) (put Register.Idcode w c)) Event.Nothing)
+    (stopped Stop.WrongIdcode c)
 
 -- 01, stop 5: "FLR word not L-1"
 unfoldable pub flrWord : Phase → Control → ℕ → Transition
-flrWord p c w = cond (eqb (w + 1) (lengthAt (c .device))) (transition p (withFlags (raised Register.Flr (c .flags)) (put Register.Flr w c)) Event.Nothing) (stopped Stop.WrongFrameLength c)
+flrWord p c w =
+    cond (eqb (w + 1) (lengthAt (c .device)))
+    (transition p (withFlags (raised Register.Flr (c .flags)) (put Register.Flr w c)) Event.Nothing)
+    (stopped Stop.WrongFrameLength c)
 
 -- ---- a word in each phase
 
@@ -115,7 +122,7 @@ dataWord Register.Mfwr left filled c w = mfwrWord left filled c w
 dataWord Register.Flr left filled c w = flrWord (onward Register.Flr left filled) c w
 dataWord Register.Idcode left filled c w = idcodeWord (onward Register.Idcode left filled) c w
 
--- a whole word; hunting and stopped take bytes, not words
+-- a whole word; hunting takes bytes and stopped takes nothing, so that both stay as they are
 unfoldable pub word : Phase → Control → ℕ → Transition
 word (Phase.Hunting b) c w = transition (Phase.Hunting b) c Event.Nothing
 word (Phase.Header o) c w = headerWord o c w

@@ -12,8 +12,8 @@ use Rattle.registers.specs.declared.RegisterAnswer.{RegisterAnswer}
 use Rattle.registers.specs.declared.RegisterAnswer.the-variants as RegisterAnswer
 use Rattle.config.specs.declared.Open.{Open}
 use Rattle.config.specs.declared.Open.the-variants as Open
-use Rattle.config.specs.declared.Packet.{Packet}
-use Rattle.config.specs.declared.Packet.the-variants as Packet
+use Rattle.config.specs.declared.PacketHeader.{PacketHeader}
+use Rattle.config.specs.declared.PacketHeader.the-variants as PacketHeader
 use Rattle.config.specs.declared.Control.{Control}
 use Rattle.config.specs.declared.Phase.the-variants as Phase
 use Rattle.answers.specs.declared.Stop.the-variants as Stop
@@ -37,20 +37,20 @@ abbrev pub count2 : ℕ → ℕ
 count2 w = w % 2 ^ 27
 
 -- 01: "Operation 0 needs type 1 and count 0, any register; operation 3 and other types are not allowed"
-unfoldable pub type1 : ℕ → Packet
+unfoldable pub type1 : ℕ → PacketHeader
 type1 w =
-    cond (eqb (operation w) 0) (cond (eqb (count1 w) 0) Packet.Idle Packet.Bad)
-    (cond (eqb (operation w) 1) Packet.Read
-    (cond (eqb (operation w) 2) (Packet.Write (registerField w) (count1 w)) Packet.Bad))
+    cond (eqb (operation w) 0) (cond (eqb (count1 w) 0) PacketHeader.Idle PacketHeader.Bad)
+    (cond (eqb (operation w) 1) PacketHeader.Read
+    (cond (eqb (operation w) 2) (PacketHeader.Write (registerField w) (count1 w)) PacketHeader.Bad))
 
 -- 01: type 2 "is allowed only as the next word after a type 1 write header of count 0, whose register it uses"
-unfoldable pub type2 : Open → ℕ → Packet
-type2 Open.Closed w = Packet.Bad
-type2 (Open.After r) w = cond (eqb (operation w) 1) Packet.Read (cond (eqb (operation w) 2) (Packet.LongWrite r (count2 w)) Packet.Bad)
+unfoldable pub type2 : Open → ℕ → PacketHeader
+type2 Open.Closed w = PacketHeader.Bad
+type2 (Open.After r) w = cond (eqb (operation w) 1) PacketHeader.Read (cond (eqb (operation w) 2) (PacketHeader.LongWrite r (count2 w)) PacketHeader.Bad)
 
 -- 01: "The word 00000000 as a header is padding"
-unfoldable pub packet : Open → ℕ → Packet
-packet o w = cond (eqb w 0) Packet.Idle (cond (eqb (typeOf w) 1) (type1 w) (cond (eqb (typeOf w) 2) (type2 o w) Packet.Bad))
+unfoldable pub packet : Open → ℕ → PacketHeader
+packet o w = cond (eqb w 0) PacketHeader.Idle (cond (eqb (typeOf w) 1) (type1 w) (cond (eqb (typeOf w) 2) (type2 o w) PacketHeader.Bad))
 
 -- 01, stop 6: "before IDCODE and FLR were accepted, or CMD not WCFG (FDRI), not MFWR (MFWR), or MFWR with no frame in hand"
 unfoldable pub ready : Register → Control → Bool
@@ -75,12 +75,12 @@ typeOneWrite RegisterAnswer.NotWritable n c = stopped Stop.BadRegister c
 typeOneWrite (RegisterAnswer.Writable r) n c = cond (eqb n 0) (transition (Phase.Header (Open.After r)) c Event.Nothing) (begin r n c)
 
 -- 01: "Header checks go 1, 3, 2, 6, 7"
-unfoldable pub obeyed : Packet → Control → Transition
-obeyed Packet.Idle c = transition (Phase.Header Open.Closed) c Event.Nothing
-obeyed Packet.Bad c = stopped Stop.BadHeader c
-obeyed Packet.Read c = stopped Stop.ReadOperation c
-obeyed (Packet.Write a n) c = typeOneWrite (registerAt a) n c
-obeyed (Packet.LongWrite r n) c = cond (eqb n 0) (transition (Phase.Header Open.Closed) c Event.Nothing) (begin r n c)
+unfoldable pub obeyed : PacketHeader → Control → Transition
+obeyed PacketHeader.Idle c = transition (Phase.Header Open.Closed) c Event.Nothing
+obeyed PacketHeader.Bad c = stopped Stop.BadHeader c
+obeyed PacketHeader.Read c = stopped Stop.ReadOperation c
+obeyed (PacketHeader.Write a n) c = typeOneWrite (registerAt a) n c
+obeyed (PacketHeader.LongWrite r n) c = cond (eqb n 0) (transition (Phase.Header Open.Closed) c Event.Nothing) (begin r n c)
 
 -- a header word
 abbrev pub headerWord : Open → Control → ℕ → Transition

@@ -46,8 +46,8 @@ hold r w q = record {
 
 -- 01: "Each data word to any register but LOUT is fed", with the register's address
 unfoldable pub fedCrc : Register → ℕ → ℕ → ℕ
-fedCrc x w v = cond (isLout x) v (feed v (addressOf x) w)
+fedCrc r w v = cond (isLout r) v (feed v (addressOf r) w)
 
 -- a word written: fed to the CRC, then held
 abbrev pub written : Register → ℕ → Registers → Registers
-written x w r = hold x w (withCrc (fedCrc x w (r .crc)) r)
+written r w q = hold r w (withCrc (fedCrc r w (q .crc)) q)

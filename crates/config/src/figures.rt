@@ -1,4 +1,4 @@
-// The figures of the record's part by its device number, 0 where the number names no part.
+// A part's figures by device number, 0 where the number names no part.
 use crate::Current;
 use parts::frame::NumberAnswer;
 use parts::table::value_of;

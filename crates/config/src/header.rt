@@ -2,7 +2,7 @@
 use crate::Control;
 use crate::Event;
 use crate::Open;
-use crate::Packet;
+use crate::PacketHeader;
 use crate::PartialWord;
 use crate::Phase;
 use crate::Transition;
@@ -21,7 +21,7 @@ ghost use Rattle.config.specs.ControlState.{transition, stopped};
 ghost use Rattle.config.specs.PacketHeaders.{type1, type2, packet, ready, counted, begin, typeOneWrite, obeyed, headerWord};
 ghost use Rattle.config.specs.declared.Event.the-variants as Event;
 
-// The machine where nothing but the phase changes.
+// The machine with this phase and control state, and no event.
 pub(crate) fn going(phase: Phase, control: Control) -> Transition
     ensures { λ r. ⌜ r ≡ transition phase control Event.Nothing ⌝ }
 {
@@ -43,55 +43,55 @@ pub(crate) fn stopped(stop: Stop, control: Control) -> Transition
     }
 }
 
-fn type1(word: u32) -> Packet
+fn type1(word: u32) -> PacketHeader
     ensures { λ r. ⌜ r ≡ type1 word ⌝ }
 {
     let operation = word / 134217728 % 4;
     let count = word % 2048;
     if operation == 0 {
         if count == 0 {
-            return Packet::Idle;
+            return PacketHeader::Idle;
         }
-        return Packet::Bad;
+        return PacketHeader::Bad;
     }
     if operation == 1 {
-        return Packet::Read;
+        return PacketHeader::Read;
     }
     if operation == 2 {
-        return Packet::Write {
+        return PacketHeader::Write {
             address: word / 8192 % 16384,
             count: count,
         };
     }
-    Packet::Bad
+    PacketHeader::Bad
 }
 
-fn type2(opened: Open, word: u32) -> Packet
+fn type2(opened: Open, word: u32) -> PacketHeader
     ensures { λ r. ⌜ r ≡ type2 opened word ⌝ }
 {
     match opened {
-        Open::Closed => Packet::Bad,
+        Open::Closed => PacketHeader::Bad,
         Open::After(register) => {
             let operation = word / 134217728 % 4;
             if operation == 1 {
-                return Packet::Read;
+                return PacketHeader::Read;
             }
             if operation == 2 {
-                return Packet::LongWrite {
+                return PacketHeader::LongWrite {
                     register: register,
                     count: word % 134217728,
                 };
             }
-            Packet::Bad
+            PacketHeader::Bad
         }
     }
 }
 
-fn packet(opened: Open, word: u32) -> Packet
+fn packet(opened: Open, word: u32) -> PacketHeader
     ensures { λ r. ⌜ r ≡ packet opened word ⌝ }
 {
     if word == 0 {
-        return Packet::Idle;
+        return PacketHeader::Idle;
     }
     let kind = word / 536870912;
     if kind == 1 {
@@ -100,7 +100,7 @@ fn packet(opened: Open, word: u32) -> Packet
     if kind == 2 {
         return type2(opened, word);
     }
-    Packet::Bad
+    PacketHeader::Bad
 }
 
 // Stop 6 does not hold.
@@ -168,15 +168,19 @@ fn type_one_write(found: RegisterAnswer, count: u32, control: Control) -> Transi
     }
 }
 
-fn obey(packet: Packet, control: Control) -> Transition
+fn obey(packet: PacketHeader, control: Control) -> Transition
     ensures { λ r. ⌜ r ≡ obeyed packet control ⌝ }
 {
     match packet {
-        Packet::Idle => going(Phase::Header(Open::Closed), control),
-        Packet::Bad => stopped(Stop::BadHeader, control),
-        Packet::Read => stopped(Stop::ReadOperation, control),
-        Packet::Write { address, count } => type_one_write(register_at(address), count, control),
-        Packet::LongWrite { register, count } => {
+        PacketHeader::Idle => going(Phase::Header(Open::Closed), control),
+        PacketHeader::Bad => stopped(Stop::BadHeader, control),
+        PacketHeader::Read => stopped(Stop::ReadOperation, control),
+        PacketHeader::Write { address, count } => type_one_write(
+            register_at(address),
+            count,
+            control,
+        ),
+        PacketHeader::LongWrite { register, count } => {
             if count == 0 {
                 return going(Phase::Header(Open::Closed), control);
             }

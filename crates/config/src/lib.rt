@@ -14,7 +14,7 @@ pub enum PartialWord {
 
 // A header word: nothing to do (padding, no operation), a type 1 write to an address, a type 2 write to the open register, a
 // read, or a header of no allowed kind.
-pub enum Packet {
+pub enum PacketHeader {
     Idle,
     Write { address: u32, count: u32 },
     LongWrite { register: Register, count: u32 },
@@ -73,6 +73,7 @@ pub struct Flags {
     pub started: bool,
 }
 
+// The record but for the phase and the frame buffer.
 pub struct Control {
     pub device: u32,
     pub registers: Registers,
@@ -107,7 +108,7 @@ ghost use mathlib.Core.Path.{_≡_};
 ghost use Rattle.config.specs.DataWords.{word};
 ghost use Rattle.config.specs.StreamBytes.{byte};
 
-// A whole word in a phase that takes words.
+// A whole word; hunting, which takes bytes, and stopped, which takes nothing, are handed back as they are.
 pub fn word(phase: Phase, control: Control, w: u32) -> Transition
     ensures { λ r. ⌜ r ≡ word phase control w ⌝ }
 {

@@ -55,22 +55,22 @@ module _ (l f : ℕ) (own : ℕ → Bool) (b : List ℕ) where
 -- ---- the words of the stream
 
 -- "plus 7 + (k+1)·L for kind 1, 7 + L + 5k for kind 2"
-unfoldable pub stepWords : ℕ → Step → ℕ
-stepWords l (FrameWrite n fs) = 7 + (length fs + 1) * l
-stepWords l (MultiFrameWrite x ts) = 7 + l + 5 * length ts
+unfoldable pub stepWordCount : ℕ → Step → ℕ
+stepWordCount l (FrameWrite n fs) = 7 + (length fs + 1) * l
+stepWordCount l (MultiFrameWrite x ts) = 7 + l + 5 * length ts
 
-unfoldable pub stepsWords : ℕ → List Step → ℕ
-stepsWords l [] = 0
-stepsWords l (s ∷ ss) = stepWords l s + stepsWords l ss
+unfoldable pub stepsWordCount : ℕ → List Step → ℕ
+stepsWordCount l [] = 0
+stepsWordCount l (s ∷ ss) = stepWordCount l s + stepsWordCount l ss
 
 -- "Words: 12, plus"
-abbrev pub streamWords : ℕ → List Step → ℕ
-streamWords l ss = 12 + stepsWords l ss
+abbrev pub streamWordCount : ℕ → List Step → ℕ
+streamWordCount l ss = 12 + stepsWordCount l ss
 
 -- ---- the check
 
 unfoldable pub verdictOf : ℕ → Reading (List Step) → Verdict
-verdictOf l (Reading.Read ss next) = Verdict.Accepted (4 * streamWords l ss)
+verdictOf l (Reading.Read ss next) = Verdict.Accepted (4 * streamWordCount l ss)
 verdictOf l (Reading.Refused c at) = Verdict.Refused c at
 
 -- "Checks: 21, 37, then the layout"; 37: "seat's first frame plus count above F"

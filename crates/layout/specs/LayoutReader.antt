@@ -10,7 +10,7 @@ use Rattle.layout.specs.declared.FrameRange.{FrameRange}
 use Rattle.layout.specs.declared.reader.LayoutReader.{LayoutReader}
 use Rattle.layout.specs.declared.step.StepAt.{StepAt}
 
--- a reader of the layout, at an offset: 01's place
+-- a reader of the layout, at an offset: 01's place; `now` is the bytes that are lent
 abbrev pub opened : RefT (List ℕ) → ℕ → LayoutReader
 opened layout at = record { layout = layout; at = at }
 

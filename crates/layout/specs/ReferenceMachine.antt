@@ -11,27 +11,27 @@ use Rattle.layout.specs.Layout.{layoutRead}
 
 module _ (l : ℕ) where
   -- "Kind 1 at first frame f: for each i under k, frame f+i becomes the step's frame i"
-  unfoldable pub written : ℕ → List (List ℕ) → List ℕ → List ℕ
-  written n [] m = m
-  written n (x ∷ xs) m = written (n + 1) xs (placed l n x m)
+  unfoldable pub framesWritten : ℕ → List (List ℕ) → List ℕ → List ℕ
+  framesWritten n [] m = m
+  framesWritten n (x ∷ xs) m = framesWritten (n + 1) xs (placed l n x m)
 
   -- "Kind 2: each target becomes the step's one frame"
   unfoldable pub spread : List ℕ → List ℕ → List ℕ → List ℕ
   spread x [] m = m
   spread x (t ∷ ts) m = spread x ts (placed l t x m)
 
-  unfoldable pub done : Step → List ℕ → List ℕ
-  done (FrameWrite n fs) m = written n fs m
-  done (MultiFrameWrite x ts) m = spread x ts m
+  unfoldable pub stepApplied : Step → List ℕ → List ℕ
+  stepApplied (FrameWrite n fs) m = framesWritten n fs m
+  stepApplied (MultiFrameWrite x ts) m = spread x ts m
 
   -- "Each step works on what the last one left"; "after no steps, all" frames stay
-  unfoldable pub allDone : List Step → List ℕ → List ℕ
-  allDone [] m = m
-  allDone (s ∷ ss) m = allDone ss (done s m)
+  unfoldable pub stepsApplied : List Step → List ℕ → List ℕ
+  stepsApplied [] m = m
+  stepsApplied (s ∷ ss) m = stepsApplied ss (stepApplied s m)
 
   -- "A refused layout has no stream and does nothing"
   unfoldable pub madeOf : Reading (List Step) → List ℕ → List ℕ
-  madeOf (Reading.Read ss next) m = allDone ss m
+  madeOf (Reading.Read ss next) m = stepsApplied ss m
   madeOf (Reading.Refused c at) m = m
 
 -- "It is fed the part and the layout": it reads the layout for the whole part

@@ -42,7 +42,8 @@ targetsRead l k body (Reading.Read ts next) = StepAt.MultiFrameWrite k body (bod
 targetsRead l k body (Reading.Refused c at) = StepAt.Refused c at
 
 module _ (l f : ℕ) (own : ℕ → Bool) (b : List ℕ) where
-  -- kind 1, judged when its count k is read: "k = 0 (31), 34, 35, then missing bytes (31)"; n is the first frame, at its offset
+  -- kind 1, judged when its count is read: "k = 0 (31), 34, 35, then missing bytes (31)"; first frame n, read at offset at; count k,
+  -- read at offset count; its frames begin at offset body
   unfoldable pub judgedWrite : ℕ → ℕ → ℕ → ℕ → ℕ → StepAt
   judgedWrite n at k count body =
       cond (eqb k 0) (StepAt.Refused Cause.ZeroCount count)
@@ -94,8 +95,8 @@ module _ (l f : ℕ) (own : ℕ → Bool) (b : List ℕ) where
 
 -- ---- one step, as a desk reads it
 
--- the step at an offset, for the desk's device d and range r. A device that names no part has frames of 0 words and none of them: 01 leaves
--- the step free there, and it is refused (NoPart)
+-- the step at an offset, for the desk's device number d and range r. A number that names no part has no frames: 01 leaves the step
+-- free there, and it is refused (specs/Laws/NoPart.antt)
 abbrev pub deskStep : ℕ → FrameRange → List ℕ → ℕ → StepAt
 deskStep d r b at = stepAt (lengthAt d) (countAt d) (owns r) b at
 

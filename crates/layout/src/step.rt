@@ -58,7 +58,7 @@ fn bytes_left(layout: &[u8], at: usize) -> usize
     layout.len() - at
 }
 
-// A FrameWrite, judged when its count is read. at and count_at are the offsets of its first frame's number and of its count.
+// A FrameWrite, judged when its count is read. at and count_offset are the offsets of its first frame's number and of its count.
 fn judged_write(
     device: u32,
     range: FrameRange,
@@ -66,14 +66,14 @@ fn judged_write(
     first: u32,
     at: usize,
     count: u32,
-    count_at: usize,
+    count_offset: usize,
     body: usize,
 ) -> StepAt
     requires { ⌜ body ≤ length (now layout) ⌝ }
-    ensures { λ r. ⌜ r ≡ judgedWrite (lengthAt device) (countAt device) (owns range) (now (layout .entry)) first at count «count_at» body ⌝ }
+    ensures { λ r. ⌜ r ≡ judgedWrite (lengthAt device) (countAt device) (owns range) (now (layout .entry)) first at count «count_offset» body ⌝ }
 {
     if count == 0 {
-        return refused(Cause::ZeroCount, count_at);
+        return refused(Cause::ZeroCount, count_offset);
     }
     if (value_of(frame_count(device)) as u64) < first as u64 + count as u64 {
         return refused(Cause::OutsidePart, at);
@@ -100,13 +100,13 @@ fn write_count(
     layout: &[u8],
     first: u32,
     at: usize,
-    count_at: usize,
+    count_offset: usize,
 ) -> StepAt
-    ensures { λ r. ⌜ r ≡ writeCount (lengthAt device) (countAt device) (owns range) (now (layout .entry)) first at «count_at» (numberAt (now (layout .entry)) «count_at») ⌝ }
+    ensures { λ r. ⌜ r ≡ writeCount (lengthAt device) (countAt device) (owns range) (now (layout .entry)) first at «count_offset» (numberAt (now (layout .entry)) «count_offset») ⌝ }
 {
-    let read = read_number(layout, count_at);
+    let read = read_number(layout, count_offset);
     match read {
-        Number::Refused(cause) => refused(cause, count_at),
+        Number::Refused(cause) => refused(cause, count_offset),
         Number::Value { value, next } => judged_write(
             device,
             range,
@@ -114,7 +114,7 @@ fn write_count(
             first,
             at,
             value,
-            count_at,
+            count_offset,
             next,
         ),
     }
@@ -185,8 +185,8 @@ pub(crate) fn step_at(device: u32, range: FrameRange, layout: &[u8], at: usize) 
     }
 }
 
-// The step at an offset, read by a reader of the layout. A device that names no part is not refused 21: no frame is in its part, so that
-// the step is refused 31 or 34.
+// The step at an offset, read by a reader of the layout. A device number that names no part is not
+// refused with 21: the step is refused, and one that has its form with 34 (specs/Laws/NoPart.antt).
 pub fn read_step(device: u32, range: FrameRange, layout: &[u8], at: usize) -> StepAt
     ensures { λ r. ⌜ r ≡ deskStep device range (now (layout .entry)) at ⌝ }
 {

@@ -1,4 +1,4 @@
-// Prints document 01's worked examples of layouts, a way to each refusal, and what single numbers and steps answer, as the proved library
+// Prints 01's worked examples of layouts, a way to each refusal, and what single numbers and steps answer, as the proved library
 // answers them.
 use answers::layout::verdict_number;
 use answers::layout::verdict_value;

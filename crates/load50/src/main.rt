@@ -1,4 +1,4 @@
-// Loads standard input into a freshly powered XC3S50 and prints what came of it, in document 01's four lines.
+// Loads standard input into a freshly powered XC3S50 and prints what came of it, in 01's four lines.
 use answers::Answer;
 use config::Phase;
 use libc::STDERR_FILENO;

@@ -16,7 +16,8 @@ buffered (Event.Keep at w) f = set f at w
 buffered (Event.KeepAndStore at w n) f = set f at w
 buffered (Event.Store n) f = f
 
--- frame n of frames of l words becomes the first l words of the buffer, where the memory holds that frame, as it does for every consistent record and its part's memory
+-- frame n of frames of l words becomes the first l words of the buffer, where the memory holds that frame, as it does for every
+-- consistent record and its part's memory
 unfoldable pub storeWithin : ℕ → ℕ → List ℕ → List ℕ → List ℕ
 storeWithin l n buffer m = cond (leb (4 * l * n + 4 * l) (length m)) (placed l n (bytesOf (take l buffer)) m) m
 

@@ -31,6 +31,7 @@ recordAfter f d = record { phase = f .phase; control = f .control; frame = buffe
 abbrev pub memoryAfter : Transition → Record → List ℕ → List ℕ
 memoryAfter f d m = stored (lengthAt (d .control .device)) (f .event) (d .frame) m
 
+-- what a run leaves: the record, the memory, and the bytes taken
 pub record Ran : Type 0 where
   pub «record» : Record
   pub memory : List ℕ

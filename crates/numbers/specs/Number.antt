@@ -30,7 +30,7 @@ groups (suc k) first i (x ∷ xs) = cond (ltb x 128) (lastGroup first x (i + 1))
 abbrev pub numberAt : List ℕ → ℕ → Number
 numberAt b at = groups 4 true at (drop at b)
 
--- 01's number of a reading, 0 where a number was read
+-- 01's number of what was read, 0 where nothing is refused
 abbrev pub readRefusal : Number → ℕ
 readRefusal (Number.Value v next) = 0
 readRefusal (Number.Refused c) = causeNumber c

@@ -209,7 +209,7 @@ pub fn frame_number(device: u32, address: u32) -> NumberAnswer
     }
 }
 
-// Document 01's number of an answer, 0 where nothing is refused.
+// 01's number of an answer, 0 where nothing is refused.
 pub fn address_refusal(answer: AddressAnswer) -> u32
     ensures { λ r. ⌜ r ≡ addressRefusal answer ⌝ }
 {
@@ -220,7 +220,7 @@ pub fn address_refusal(answer: AddressAnswer) -> u32
     }
 }
 
-// Document 01's number of an answer, 0 where nothing is refused: an address of no frame is an answer.
+// 01's number of an answer, 0 where nothing is refused: an address of no frame is an answer.
 pub fn number_refusal(answer: NumberAnswer) -> u32
     ensures { λ r. ⌜ r ≡ numberRefusal answer ⌝ }
 {

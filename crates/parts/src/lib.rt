@@ -1,3 +1,3 @@
-// The eight parts of document 01: their figures, and the frame addresses of each.
+// The eight parts of 01: their figures, and the frame addresses of each.
 pub mod frame;
 pub mod table;

@@ -3,7 +3,7 @@ ghost use mathlib.Core.Path.{_≡_};
 ghost use Rattle.parts.specs.Table.{partOf, figure, idcodeOf, frameLength, frameCount, memoryLength, partRefusal, figureRefusal, valueOf};
 ghost use Rattle.parts.specs.Laws.PrintedFigures.{Limits};
 
-// What tells one part from another: R, C and B of document 01 are rows, columns and ram_columns.
+// What tells one part from another: R, C and B of 01 are rows, columns and ram_columns.
 pub struct Part {
     pub idcode: u32,
     pub rows: u32,
@@ -147,7 +147,7 @@ pub fn memory_length(device: u32) -> Figure
     }
 }
 
-// Document 01's number of an answer, 0 where nothing is refused.
+// 01's number of an answer, 0 where nothing is refused.
 pub fn part_refusal(answer: PartAnswer) -> u32
     ensures { λ r. ⌜ r ≡ partRefusal answer ⌝ }
 {
@@ -157,7 +157,7 @@ pub fn part_refusal(answer: PartAnswer) -> u32
     }
 }
 
-// Document 01's number of an answer, 0 where nothing is refused.
+// 01's number of an answer, 0 where nothing is refused.
 pub fn figure_refusal(answer: Figure) -> u32
     ensures { λ r. ⌜ r ≡ figureRefusal answer ⌝ }
 {

@@ -1,5 +1,5 @@
 -- What a reconfiguration promises, by its answer: where it is done, demand 3; where it is refused, that nothing changed.
--- Source: the third demand, with 01, "Layouts": "Demand 3 does the steps on a plain machine"; "A refused layout has no stream and does nothing".
+-- Source: demand 3 (docs/DEMAND-3.md); 01, "Layouts": "Demand 3 does the steps on a plain machine"; "A refused layout has no stream and does nothing".
 use mathlib.Core.Path.{_≡_}
 use mathlib.Core.List.{List}
 use mathlib.Core.Bool.{true, false}
@@ -30,16 +30,17 @@ pub record Effect (d : ℕ) (r : FrameRange) (b m : List ℕ) (e : Record) (k : 
   pub memory : k ≡ machine d b m
   pub outside : (n : ℕ) → owns r n ≡ false → frameOf (lengthAt d) n k ≡ frameOf (lengthAt d) n m
 
-abbrev Judged : ℕ → FrameRange → List ℕ → List ℕ → Record → Verdict → Record → List ℕ → Type 0
-Judged d r b m e₀ (Verdict.Accepted n) e k = Effect d r b m e k
-Judged d r b m e₀ Verdict.UnknownDevice e k = (e ≡ e₀) × (k ≡ m)
-Judged d r b m e₀ Verdict.WrongRange e k = (e ≡ e₀) × (k ≡ m)
-Judged d r b m e₀ Verdict.WrongMemory e k = (e ≡ e₀) × (k ≡ m)
-Judged d r b m e₀ (Verdict.ShortOutput n) e k = (e ≡ e₀) × (k ≡ m)
-Judged d r b m e₀ (Verdict.Refused c at) e k = (e ≡ e₀) × (k ≡ m)
+-- by the verdict: accepted, the effect; refused, record and memory as they were
+abbrev PromisedBy : ℕ → FrameRange → List ℕ → List ℕ → Record → Verdict → Record → List ℕ → Type 0
+PromisedBy d r b m e₀ (Verdict.Accepted n) e k = Effect d r b m e k
+PromisedBy d r b m e₀ Verdict.UnknownDevice e k = (e ≡ e₀) × (k ≡ m)
+PromisedBy d r b m e₀ Verdict.WrongRange e k = (e ≡ e₀) × (k ≡ m)
+PromisedBy d r b m e₀ Verdict.WrongMemory e k = (e ≡ e₀) × (k ≡ m)
+PromisedBy d r b m e₀ (Verdict.ShortOutput n) e k = (e ≡ e₀) × (k ≡ m)
+PromisedBy d r b m e₀ (Verdict.Refused c at) e k = (e ≡ e₀) × (k ≡ m)
 
 -- of record e₀ and memory m, by the answer, with record e and memory k afterwards
 abbrev pub Promised : FrameRange → List ℕ → Record → List ℕ → Change → Record → List ℕ → Type 0
 Promised r b e₀ m Change.Inconsistent e k = (e ≡ e₀) × (k ≡ m)
 Promised r b e₀ m Change.NotHunting e k = (e ≡ e₀) × (k ≡ m)
-Promised r b e₀ m (Change.Judged v) e k = Judged (e₀ .control .device) r b m e₀ v e k
+Promised r b e₀ m (Change.Judged v) e k = PromisedBy (e₀ .control .device) r b m e₀ v e k

@@ -40,7 +40,7 @@ fn is_hunting(phase: Phase) -> bool
     }
 }
 
-// Compiles a layout for the record's own record into an output and loads the stream: 22, 23, 24, then the compiler's refusals. A
+// Compiles a layout for the record's own device into an output and loads the stream: 22, 23, 24, then the compiler's refusals. A
 // refusal changes nothing.
 pub fn reconfigure(
     record: Record,

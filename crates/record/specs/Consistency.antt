@@ -6,7 +6,7 @@ use mathlib.Core.Bool.{Bool, true, not, cond, _&&_}
 use lib.Dec.{eqb, leb, ltb}
 use Rattle.parts.specs.Table.{lengthAt, countAt}
 use Rattle.registers.specs.RegisterAddresses.{isFdri, isMfwr}
-use Rattle.registers.specs.CommandCodes.{LAST}
+use Rattle.registers.specs.CommandCodes.{lastCommand}
 use Rattle.registers.specs.declared.Register.{Register}
 use Rattle.config.specs.declared.Current.{Current}
 use Rattle.config.specs.declared.Current.the-variants as Current
@@ -36,4 +36,4 @@ phaseFits (Phase.Stopped s) c = true
 -- "device at most 7; current frame under F or none; CRC under 65,536; CMD at most 13"
 unfoldable pub consistent : Phase → Control → Bool
 consistent p c =
-    leb (c .device) 7 && currentFits (c .device) (c .current) && ltb (c .registers .crc) 65536 && leb (c .registers .cmd) LAST && phaseFits p c
+    leb (c .device) 7 && currentFits (c .device) (c .current) && ltb (c .registers .crc) 65536 && leb (c .registers .cmd) lastCommand && phaseFits p c

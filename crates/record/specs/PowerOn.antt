@@ -28,15 +28,24 @@ unfoldable pub freshControl : ℕ → Control
 freshControl d = record {
   device = d;
   registers = record { crc = 0; far = 0; fdri = 0; cmd = 0; ctl = 0; mask = 0; lout = 0; cor = 0; mfwr = 0; flr = 0; idcode = 0 };
-  flags = record { «idcode_ok» = false; «flr_ok» = false; «buffer_valid» = false; ghigh = false; «start_pending» = false; «check_passed» = false; started = false };
+  flags = record {
+    «idcode_ok» = false;
+    «flr_ok» = false;
+    «buffer_valid» = false;
+    ghigh = false;
+    «start_pending» = false;
+    «check_passed» = false;
+    started = false;
+  };
   current = Current.Frame 0;
   partial = PartialWord.Zero;
 }
 
+-- 01: "hunting"; "a frame in hand of 213 words"
 unfoldable pub fresh : ℕ → Record
 fresh d = record { phase = Phase.Hunting PartialWord.Zero; control = freshControl d; frame = replicate 213 0 }
 
--- 01: "order 21 or 22, then 23"; a refusal hands back the fresh record of device 0 and changes no memory
+-- 01: "order 21 or 22, then 23"; a refusal hands back the fresh record of device 0 and changes no memory; "memory, registers and frame words zero"
 unfoldable pub powered : Figure → ℕ → List ℕ → Outcome
 powered (Figure.Value n) d m =
     cond (eqb (length m) n) (record { «record» = fresh d; memory = replicate n 0; answer = Answer.Done; taken = 0 })

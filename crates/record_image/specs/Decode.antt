@@ -78,11 +78,11 @@ pendingOf count number =
 
 -- 1 to 4: "phase: 0 hunting, 1 header, 2 data, 3 crc, 4 stopped", stopped for any other number
 unfoldable pub phaseOf : ℕ → ℕ → ℕ → ℕ → PartialWord → Phase
-phaseOf number subject left filled window =
+phaseOf number argument left filled window =
     cond (eqb number 0) (Phase.Hunting window)
-    (cond (eqb number 1) (Phase.Header (openOf subject))
-    (cond (eqb number 2) (Phase.Data (registerOf subject) left filled)
-    (cond (eqb number 3) Phase.Crc (Phase.Stopped (stopOf subject)))))
+    (cond (eqb number 1) (Phase.Header (openOf argument))
+    (cond (eqb number 2) (Phase.Data (registerOf argument) left filled)
+    (cond (eqb number 3) Phase.Crc (Phase.Stopped (stopOf argument)))))
 
 -- 5 and 6: "the partial word, or ... the sync window while hunting", when the partial word is empty
 unfoldable pub partialOf : ℕ → PartialWord → PartialWord

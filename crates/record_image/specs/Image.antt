@@ -37,12 +37,12 @@ openNumber Open.Closed = 0
 openNumber (Open.After r) = addressOf r + 1
 
 -- 2: what the phase is about; "data: the register; stopped: the stop number; else 0"
-abbrev pub subject : Phase → ℕ
-subject (Phase.Hunting b) = 0
-subject (Phase.Header o) = openNumber o
-subject (Phase.Data r left filled) = addressOf r
-subject Phase.Crc = 0
-subject (Phase.Stopped s) = stopNumber s
+abbrev pub argument : Phase → ℕ
+argument (Phase.Hunting b) = 0
+argument (Phase.Header o) = openNumber o
+argument (Phase.Data r left filled) = addressOf r
+argument Phase.Crc = 0
+argument (Phase.Stopped s) = stopNumber s
 
 -- 3: "data: words left; else 0"
 abbrev pub wordsLeft : Phase → ℕ
@@ -92,27 +92,30 @@ currentNumber (Current.Frame n) = n
 currentNumber Current.NoFrame = 0xFFFFFFFF
 
 -- a flag at its place
-abbrev pub bit : Bool → ℕ → ℕ
-bit on weight = cond on weight 0
+abbrev pub flagBit : Bool → ℕ → ℕ
+flagBit on weight = cond on weight 0
 
 -- 8: "bit 0 IDCODE accepted, 1 FLR accepted, 2 a frame in the buffer, 3 GHIGH, 4 start pending, 5 a check has passed since START (or
 -- power-on), 6 started; others 0"
 unfoldable pub flagBits : Flags → ℕ
 flagBits f =
-    bit (f .«idcode_ok») 1 + bit (f .«flr_ok») 2 + bit (f .«buffer_valid») 4 + bit (f .ghigh) 8 + bit (f .«start_pending») 16
-    + bit (f .«check_passed») 32 + bit (f .started) 64
+    flagBit (f .«idcode_ok») 1 + flagBit (f .«flr_ok») 2 + flagBit (f .«buffer_valid») 4 + flagBit (f .ghigh) 8 + flagBit (f .«start_pending») 16
+    + flagBit (f .«check_passed») 32 + flagBit (f .started) 64
 
 -- 9 to 23: "registers 0 to 14 at their addresses; 9 is the CRC register; those that cannot be written or do not exist are 0"
 abbrev pub registerWords : Registers → List ℕ
 registerWords r =
-    r .crc ∷ r .far ∷ r .fdri ∷ 0 ∷ r .cmd ∷ r .ctl ∷ r .mask ∷ 0 ∷ r .lout ∷ r .cor ∷ r .mfwr ∷ r .flr ∷ 0 ∷ 0 ∷ r .idcode ∷ []
+    r .crc ∷ r .far ∷ r .fdri ∷ 0
+    ∷ r .cmd ∷ r .ctl ∷ r .mask ∷ 0
+    ∷ r .lout ∷ r .cor ∷ r .mfwr ∷ r .flr
+    ∷ 0 ∷ 0 ∷ r .idcode ∷ []
 
 -- ---- the image
 
 -- words 0 to 23; 0: "device number"
 unfoldable pub headWords : Phase → Control → List ℕ
 headWords p c =
-    c .device ∷ phaseNumber p ∷ subject p ∷ wordsLeft p ∷ wordsFilled p ∷ bytesCount (pending p (c .partial)) ∷ bytesNumber (pending p (c .partial))
+    c .device ∷ phaseNumber p ∷ argument p ∷ wordsLeft p ∷ wordsFilled p ∷ bytesCount (pending p (c .partial)) ∷ bytesNumber (pending p (c .partial))
     ∷ currentNumber (c .current) ∷ flagBits (c .flags) ∷ registerWords (c .registers)
 
 -- 24 to 236: "the frame buffer's 213 words"

@@ -74,19 +74,19 @@ fn pending_of(count: u32, number: u32) -> PartialWord
 }
 
 // Words 1 to 4.
-fn phase_of(number: u32, subject: u32, left: u32, filled: u32, window: PartialWord) -> Phase
-    ensures { λ r. ⌜ r ≡ phaseOf number subject left filled window ⌝ }
+fn phase_of(number: u32, argument: u32, left: u32, filled: u32, window: PartialWord) -> Phase
+    ensures { λ r. ⌜ r ≡ phaseOf number argument left filled window ⌝ }
 {
     match number {
         0 => Phase::Hunting(window),
-        1 => Phase::Header(open_of(subject)),
+        1 => Phase::Header(open_of(argument)),
         2 => Phase::Data {
-            register: register_of(subject),
+            register: register_of(argument),
             left: left,
             filled: filled,
         },
         3 => Phase::Crc,
-        _ => Phase::Stopped(stop_of(subject)),
+        _ => Phase::Stopped(stop_of(argument)),
     }
 }
 

@@ -1,4 +1,4 @@
-// A record record into its image, and the test that bytes are its image.
+// A device record into its image, and the test that bytes are its image.
 use crate::RECORD_LENGTH;
 use crate::head::head;
 use crate::words::has_words;

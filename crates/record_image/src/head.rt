@@ -9,8 +9,8 @@ use config::Phase;
 use registers::Register;
 ghost use mathlib.Core.Path.{_≡_};
 ghost use Prim.Native.Nat.{_≤_};
-ghost use Rattle.record_image.specs.Image.{phaseNumber, openNumber, subject as subjectOf, wordsLeft, wordsFilled};
-ghost use Rattle.record_image.specs.Image.{pending as pendingOf, bytesCount, bytesNumber, currentNumber, bit as bitOf, flagBits, headWords};
+ghost use Rattle.record_image.specs.Image.{phaseNumber, openNumber, argument as argumentOf, wordsLeft, wordsFilled};
+ghost use Rattle.record_image.specs.Image.{pending as pendingOf, bytesCount, bytesNumber, currentNumber, flagBit, flagBits, headWords};
 
 // Word 1.
 fn phase_number(phase: Phase) -> u32
@@ -36,8 +36,8 @@ fn open_number(opened: Open) -> u32
 }
 
 // Word 2.
-fn subject(phase: Phase) -> u32
-    ensures { λ r. ⌜ r ≡ subjectOf phase ⌝ }
+fn argument(phase: Phase) -> u32
+    ensures { λ r. ⌜ r ≡ argumentOf phase ⌝ }
 {
     match phase {
         Phase::Hunting(_) => 0,
@@ -141,7 +141,7 @@ fn current_number(current: Current) -> u32
 
 // A flag at its place.
 fn bit(on: bool, weight: u32) -> u32
-    ensures { λ r. ⌜ (r ≡ bitOf on weight) × (r ≤ weight) ⌝ }
+    ensures { λ r. ⌜ (r ≡ flagBit on weight) × (r ≤ weight) ⌝ }
 {
     if on { weight } else { 0 }
 }
@@ -171,7 +171,7 @@ pub(crate) fn head(phase: Phase, control: Control) -> [u32; 24]
     [
         control.device,
         phase_number(phase),
-        subject(phase),
+        argument(phase),
         words_left(phase),
         words_filled(phase),
         bytes_count(bytes),

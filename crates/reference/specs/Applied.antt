@@ -1,5 +1,6 @@
 -- A layout applied to a memory: the check's refusals, then 23, then what the reference machine makes of it.
--- Sources: 01, "Layouts": "A refused layout has no stream and does nothing"; "Stops and refusals": 23 "memory length not 4·L·F".
+-- Sources: 01, "Layouts": "A refused layout has no stream and does nothing"; "Stops and refusals": 23 "memory length not 4·L·F";
+-- docs/C-INTERFACE.md, sw_apply: the check's refusals, then 23 with value 0.
 use Prim.Native.Nat.{ℕ}
 use mathlib.Core.List.{List}
 use mathlib.Core.Bool.{cond}

@@ -6,7 +6,7 @@ ghost use Prim.Native.Nat.{_+_, _*_, _≤_};
 ghost use lib.ListN.{length, take, drop};
 ghost use Rattle.parts.specs.FrameMemory.{placed};
 ghost use Rattle.layout.specs.Step.{frames};
-ghost use Rattle.layout.specs.ReferenceMachine.{written, spread};
+ghost use Rattle.layout.specs.ReferenceMachine.{framesWritten, spread};
 ghost use Rattle.layout.specs.Inner.TargetNumbers.{numbersAt, Roomy};
 
 // Frame n, of frames of l words, becomes the bytes of the layout from an offset on.
@@ -33,7 +33,7 @@ pub(crate) fn write_frames(
     memory: &mut [u8],
 )
     requires { ⌜ (l ≤ 213) × (body + 4 * l * count ≤ length (now layout)) × (4 * l * (first + count) ≤ length (now memory)) ⌝ }
-    ensures { λ _. ⌜ now (memory .exit) ≡ written l first (frames l count (drop body (now (layout .entry)))) (now (memory .entry)) ⌝ }
+    ensures { λ _. ⌜ now (memory .exit) ≡ framesWritten l first (frames l count (drop body (now (layout .entry)))) (now (memory .entry)) ⌝ }
 {
     let mut left: u32 = count;
     let mut n: usize = first as usize;

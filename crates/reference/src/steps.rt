@@ -16,7 +16,7 @@ ghost use Rattle.parts.specs.Table.{lengthAt, countAt, memoryAt};
 ghost use Rattle.layout.specs.Ownership.{owns};
 ghost use Rattle.layout.specs.StepReading.{stepsAt, stepOffset};
 ghost use Rattle.layout.specs.Layout.{layoutRead};
-ghost use Rattle.layout.specs.ReferenceMachine.{allDone, madeOf, machine};
+ghost use Rattle.layout.specs.ReferenceMachine.{stepsApplied, madeOf, machine};
 ghost use Rattle.layout.specs.Laws.AcceptedLayout.{isRead};
 ghost use Rattle.layout.specs.Inner.FirstStep.{stepOf, StepBytes};
 ghost use Rattle.reference.specs.Inner.StepList.{StepRoom};
@@ -25,7 +25,7 @@ ghost use Rattle.reference.specs.Inner.StepList.{StepRoom};
 fn apply_step(l: usize, layout: &[u8], step: StepAt, memory: &mut [u8]) -> usize
     requires { ⌜ (l ≤ 213) × StepBytes l (now layout) step × StepRoom l (now layout) (length (now memory)) step ⌝ }
     ensures { λ r. ⌜ r ≡ stepOffset step ⌝ }
-    ensures { λ _. ⌜ now (memory .exit) ≡ allDone l (stepOf l (now (layout .entry)) step) (now (memory .entry)) ⌝ }
+    ensures { λ _. ⌜ now (memory .exit) ≡ stepsApplied l (stepOf l (now (layout .entry)) step) (now (memory .entry)) ⌝ }
 {
     match step {
         StepAt::Refused { cause: _, at } => at,

@@ -25,5 +25,5 @@ abbrev pub DESYNC : ℕ
 DESYNC = 13
 
 -- the codes end here
-abbrev pub LAST : ℕ
-LAST = DESYNC
+abbrev pub lastCommand : ℕ
+lastCommand = DESYNC

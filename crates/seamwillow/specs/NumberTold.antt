@@ -1,5 +1,5 @@
 -- What the C interface writes for an answer on a frame's number, beside 01's number that it returns.
--- Source: include/seamwillow.h.
+-- Source: docs/C-INTERFACE.md, sw_frame_number.
 use Prim.Native.Nat.{ℕ}
 use Rattle.parts.specs.declared.frame.NumberAnswer.{NumberAnswer}
 use Rattle.parts.specs.declared.frame.NumberAnswer.the-variants as NumberAnswer

@@ -1,5 +1,5 @@
 -- What the C interface makes of a record's image: power-on, load and reconfiguration.
--- Source: include/seamwillow.h.
+-- Sources: include/seamwillow.h; docs/C-INTERFACE.md, "The record's image, edition 1".
 use Prim.Native.Nat.{ℕ}
 use mathlib.Core.List.{List}
 use mathlib.Core.Bool.{cond}
@@ -26,20 +26,20 @@ pub record Result : Type 0 where
 
 -- 22, and nothing changed
 abbrev pub refusedImage : List ℕ → List ℕ → Result
-refusedImage r m = record { code = 22; image = r; memory = m; taken = 0 }
+refusedImage i m = record { code = 22; image = i; memory = m; taken = 0 }
 
 -- the outcome of a call, its record as an image in place of the one handed in
 abbrev pub resultOf : Outcome → List ℕ → Result
-resultOf o r = record { code = answerNumber (o .answer); image = encoded (o .«record») r; memory = o .memory; taken = o .taken }
+resultOf o i = record { code = answerNumber (o .answer); image = encoded (o .«record») i; memory = o .memory; taken = o .taken }
 
 -- "22 where record_len is not 948, judged first, and then nothing is written"
 unfoldable pub poweredImage : ℕ → List ℕ → List ℕ → Result
-poweredImage d r m = cond (eqb (length r) recordLength) (resultOf (powerOn d m) r) (refusedImage r m)
+poweredImage d i m = cond (eqb (length i) recordLength) (resultOf (powerOn d m) i) (refusedImage i m)
 
 -- "An image that is the image of no consistent record is refused with 22, and nothing is changed": bytes that are no image
 -- here, the image of an inconsistent record by load itself
 unfoldable pub loadedImage : List ℕ → List ℕ → List ℕ → Result
-loadedImage r m s = cond (acceptedImage r) (resultOf (load (decoded r) m s) r) (refusedImage r m)
+loadedImage i m s = cond (acceptedImage i) (resultOf (load (decoded i) m s) i) (refusedImage i m)
 
 -- what a reconfiguration returns and writes: the output too, and the value told beside the number
 pub record Changed : Type 0 where

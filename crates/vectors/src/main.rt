@@ -1,4 +1,4 @@
-// Prints document 01's worked examples for the parts and the CRC, as the proved library answers them.
+// Prints 01's worked examples for the parts and the CRC, as the proved library answers them.
 use libc::STDOUT_FILENO;
 use parts::frame::AddressAnswer;
 use parts::frame::NumberAnswer;

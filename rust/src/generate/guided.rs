@@ -2,7 +2,7 @@
 //! each next word, so that most streams go deep.
 
 use crate::generate::random::Random;
-use crate::independent::loader::{Device, Phase};
+use crate::independent::loader::{Phase, Record};
 use crate::independent::names::{command, register, SYNC};
 use crate::independent::reference::{self, Lookups};
 use crate::independent::stream::{long_header, write_header, NO_OP};
@@ -53,7 +53,7 @@ const COMMANDS: [u32; 12] = [
 struct Guide<'a> {
     random: &'a mut Random,
     lookups: &'a Lookups,
-    device: Device,
+    record: Record,
     damage: u32,
 }
 
@@ -61,7 +61,7 @@ struct Guide<'a> {
 pub fn stream(
     random: &mut Random,
     lookups: &Lookups,
-    device: Device,
+    record: Record,
     scratch: &mut [u8],
 ) -> Vec<u8> {
     let pieces = 8 + random.below(220);
@@ -69,15 +69,15 @@ pub fn stream(
     let mut guide = Guide {
         random,
         lookups,
-        device,
+        record,
         damage,
     };
     let mut bytes = Vec::new();
     for _ in 0..pieces {
         let piece = guide.next_piece();
-        guide.device.load(scratch, piece.iter().copied());
+        guide.record.load(scratch, piece.iter().copied());
         bytes.extend(piece);
-        if matches!(guide.device.phase, Phase::Stopped(_)) && guide.random.one_in(4) {
+        if matches!(guide.record.phase, Phase::Stopped(_)) && guide.random.one_in(4) {
             break;
         }
     }
@@ -89,7 +89,7 @@ pub fn stream(
 
 impl Guide<'_> {
     fn next_piece(&mut self) -> Vec<u8> {
-        let word = match self.device.phase {
+        let word = match self.record.phase {
             Phase::Hunting => return self.before_sync(),
             Phase::Stopped(_) => self.random.next_u32(),
             Phase::Header(open) => self.header(open),
@@ -106,20 +106,20 @@ impl Guide<'_> {
             word
         };
         // The record may start within a word.
-        word.to_be_bytes()[self.device.bytes.len()..].to_vec()
+        word.to_be_bytes()[self.record.bytes.len()..].to_vec()
     }
 
     /// Words of frames, any of which will do, up to the packet's last.
     fn frame_data(&mut self, left: u32) -> Vec<u8> {
-        let most = left.min(self.device.part().frame_words());
+        let most = left.min(self.record.part().frame_words());
         let words = 1 + self.random.below(most - 1);
-        let bytes = 4 * words as usize - self.device.bytes.len();
+        let bytes = 4 * words as usize - self.record.bytes.len();
         self.random.bytes(bytes)
     }
 
     /// Whether the next choice is a bad one; headers are few, so bad ones are more frequent.
     fn is_careless(&mut self) -> bool {
-        let rate = match self.device.phase {
+        let rate = match self.record.phase {
             Phase::Data { .. } => self.damage,
             _ => self.damage / 4,
         };
@@ -131,7 +131,7 @@ impl Guide<'_> {
         match self.random.below(8) {
             0 => junk(self.random, 6),
             1 => sync[..self.random.place(3)].to_vec(),
-            2 => sync[self.device.bytes.len()..].to_vec(),
+            2 => sync[self.record.bytes.len()..].to_vec(),
             3 => vec![0xFF; 4],
             _ => sync.to_vec(),
         }
@@ -154,14 +154,14 @@ impl Guide<'_> {
     }
 
     fn wanted_register(&mut self) -> u32 {
-        let flags = self.device.flags;
+        let flags = self.record.flags;
         if !flags.idcode_accepted && self.random.one_in(3) {
             return register::IDCODE;
         }
         if !flags.flr_accepted && self.random.one_in(3) {
             return register::FLR;
         }
-        let command = self.device.registers[register::CMD as usize];
+        let command = self.record.registers[register::CMD as usize];
         let accepted = flags.idcode_accepted && flags.flr_accepted;
         match self.random.pick(&WISHES) {
             register if self.is_careless() => register,
@@ -172,7 +172,7 @@ impl Guide<'_> {
     }
 
     fn count(&mut self, register: u32) -> u32 {
-        let frame_words = self.device.part().frame_words();
+        let frame_words = self.record.part().frame_words();
         match (register, self.random.below(8)) {
             _ if self.is_careless() => self.random.below(3 * frame_words),
             (_, 0) => 0,
@@ -183,9 +183,9 @@ impl Guide<'_> {
     }
 
     fn data_word(&mut self, register: u32) -> u32 {
-        let part = self.device.part();
+        let part = self.record.part();
         match register {
-            register::CRC => reference::check_word(self.device.registers[0]),
+            register::CRC => reference::check_word(self.record.registers[0]),
             register::FAR => self.frame_address(),
             register::CMD if self.random.one_in(8) => self.random.below(14),
             register::CMD => self.random.pick(&COMMANDS),
@@ -198,13 +198,13 @@ impl Guide<'_> {
 
     /// An address, often of the part's last frames, at times of none.
     fn frame_address(&mut self) -> u32 {
-        let frames = self.device.part().frame_count();
+        let frames = self.record.part().frame_count();
         let number = match self.random.below(8) {
             0 => return self.random.next_u32(),
             1 | 2 => frames - 1 - self.random.below(4),
             _ => self.random.below(frames),
         };
-        let (_, address) = self.lookups.frame_address(self.device.number, number);
+        let (_, address) = self.lookups.frame_address(self.record.number, number);
         match self.random.below(4) {
             // Bits outside the three fields are ignored.
             0 => address | (self.random.next_u32() & 0xF800_01FF),

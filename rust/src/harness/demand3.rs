@@ -6,7 +6,7 @@ use crate::harness::compiler_sides::CompilerSide;
 use crate::harness::counts::Counts;
 use crate::harness::sides::{End, State};
 use crate::independent::layout::{self, Desk};
-use crate::independent::loader::Device;
+use crate::independent::loader::Record;
 use crate::independent::names::{field, phase, register};
 use crate::independent::reference::PARTS;
 
@@ -33,7 +33,7 @@ impl Case<'_> {
         let place = field::PHASE..field::CURRENT;
         let words: Vec<u32> = place.map(|index| end.state.word(index)).collect();
         assert_eq!(words, [0; 6], "{name}");
-        assert!(Device::decode(&end.state.record).is_some(), "{name}");
+        assert!(Record::decode(&end.state.record).is_some(), "{name}");
     }
 
     /// Asserts that the frames that the desk does not name are as they were.

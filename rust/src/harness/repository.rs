@@ -51,7 +51,11 @@ fn declaration(line: &str) -> Option<Declaration<'_>> {
     let name = words.next()?;
     let kind = match marked {
         Some(_) => Kind::Definition,
-        None if words.next() == Some(":") => Kind::Theorem,
+        None if matches!(name, "use" | "mod" | "module" | "unfolding" | "where" | "}") => {
+            return None
+        }
+        // Its type follows, after parameters or on the next line.
+        None if words.find(|word| matches!(*word, ":" | "=")) != Some("=") => Kind::Theorem,
         None => return None,
     };
     Some(Declaration { kind, name })

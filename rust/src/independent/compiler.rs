@@ -2,7 +2,7 @@
 //! layout's steps through the stream writer of the tests, which feeds the CRC a bit at a time.
 
 use crate::independent::layout::{self, answer, Desk, Layout, Step};
-use crate::independent::loader::{self, Device, Phase, BAD_MEMORY, BAD_RECORD};
+use crate::independent::loader::{self, Phase, Record, BAD_MEMORY, BAD_RECORD};
 use crate::independent::names::{command, register};
 use crate::independent::reference::LOOKUPS;
 use crate::independent::stream::Stream;
@@ -33,7 +33,7 @@ pub fn reconfigure(
     layout: &[u8],
     output: &mut [u8],
 ) -> (u32, u64) {
-    let Some(device) = Device::decode(record) else {
+    let Some(device) = Record::decode(record) else {
         return (BAD_RECORD, 0);
     };
     if memory.len() != device.part().memory_bytes() {

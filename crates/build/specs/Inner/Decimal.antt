@@ -1,4 +1,5 @@
 -- The number that a text spells: decimal digits and nothing else, at least one, with a value under 2 ^ 32.
+-- Digit by digit, the highest first.
 use mathlib.Core.Path.{_≡_, refl}
 use mathlib.Core.List.{List, [], _∷_}
 use mathlib.Core.Bool.{Bool, true, false, cond, _||_, or-true}

@@ -1,4 +1,5 @@
 -- What was read lies in the buffer.
+-- A definition alone: what `read_input` promises of its count.
 use Prim.Native.Nat.{ℕ, _≤_}
 use mathlib.Core.List.{List}
 use lib.ListN.{length}

@@ -1,5 +1,5 @@
 -- No word and no byte changes the device number, or clears started, buffer_valid, idcode_ok or flr_ok.
--- By the cases of each definition: every outcome leaves the device and either leaves the four flags or sets one of them.
+-- By the cases of each definition: every transition leaves the device number and either leaves the four flags or sets one of them.
 use mathlib.Core.Path.{_≡_, _∙_, refl, ap}
 use mathlib.Core.Bool.{Bool, true, cond, _||_}
 use Prim.Native.Nat.{ℕ, _+_}
@@ -7,7 +7,7 @@ use lib.Dec.{eqb, leb, ltb}
 use Rattle.parts.specs.Laws.Cases.{either}
 use Rattle.parts.specs.Table.{idcodeAt, lengthAt}
 use Rattle.registers.specs.RegisterAddresses.{same, registerAt}
-use Rattle.registers.specs.CommandCodes.{DESYNC, LAST}
+use Rattle.registers.specs.CommandCodes.{DESYNC, lastCommand}
 use Rattle.config.specs.ControlState.{withPartial, raised}
 use Rattle.config.specs.PacketHeaders.{ready, counted, begin, typeOneWrite, obeyed, packet, headerWord}
 use Rattle.config.specs.Commands.{signalled, acted}
@@ -19,8 +19,8 @@ use Rattle.registers.specs.declared.Register.{Register}
 use Rattle.registers.specs.declared.Register.the-variants as Register
 use Rattle.config.specs.declared.Open.{Open}
 use Rattle.config.specs.declared.Open.the-variants as Open
-use Rattle.config.specs.declared.Packet.{Packet}
-use Rattle.config.specs.declared.Packet.the-variants as Packet
+use Rattle.config.specs.declared.PacketHeader.{PacketHeader}
+use Rattle.config.specs.declared.PacketHeader.the-variants as PacketHeader
 use Rattle.config.specs.declared.Current.{Current}
 use Rattle.config.specs.declared.Current.the-variants as Current
 use Rattle.config.specs.declared.PartialWord.{PartialWord}
@@ -32,7 +32,7 @@ use Rattle.config.specs.declared.Phase.the-variants as Phase
 use Rattle.config.specs.declared.Event.the-variants as Event
 use Rattle.config.specs.declared.Transition.{Transition}
 
--- the four flags that stay set; the others (ghigh, start_pending, checked) are free, so flags that differ in these alone have grown
+-- the four flags that stay set; the others (ghigh, start_pending, check_passed) are free, so flags that differ in these alone have grown
 abbrev pub Grown : Flags → Flags → Type 0
 Grown f g = record {
   started : f .started ≡ true → g .started ≡ true;
@@ -106,13 +106,13 @@ module _ (c : Control) where
   one-plain RegisterAnswer.NotWritable n = (refl, refl)
   one-plain (RegisterAnswer.Writable r) n = either Plain (eqb n 0) (λ h. (refl, refl)) (λ h. begin-plain r n)
 
-  obeyed-plain : (k : Packet) → Plain (obeyed k c)
+  obeyed-plain : (k : PacketHeader) → Plain (obeyed k c)
   unfolding obeyed
-  obeyed-plain Packet.Idle = (refl, refl)
-  obeyed-plain Packet.Bad = (refl, refl)
-  obeyed-plain Packet.Read = (refl, refl)
-  obeyed-plain (Packet.Write a n) = one-plain (registerAt a) n
-  obeyed-plain (Packet.LongWrite r n) = either Plain (eqb n 0) (λ h. (refl, refl)) (λ h. begin-plain r n)
+  obeyed-plain PacketHeader.Idle = (refl, refl)
+  obeyed-plain PacketHeader.Bad = (refl, refl)
+  obeyed-plain PacketHeader.Read = (refl, refl)
+  obeyed-plain (PacketHeader.Write a n) = one-plain (registerAt a) n
+  obeyed-plain (PacketHeader.LongWrite r n) = either Plain (eqb n 0) (λ h. (refl, refl)) (λ h. begin-plain r n)
 
   pub header-plain : (o : Open) (w : ℕ) → Plain (headerWord o c w)
   header-plain o w = obeyed-plain (packet o w)
@@ -147,7 +147,7 @@ module _ (c : Control) where
   data-keeps Register.Crc left filled w = crc-keeps _ _
   data-keeps Register.Far left filled w = acted-keeps (c .registers .cmd) _ _
   data-keeps Register.Fdri left filled w = fdri-keeps left filled w
-  data-keeps Register.Cmd left filled w = either Keeping (ltb LAST w) (λ h. stays-refl c) (λ h. acted-keeps w _ _)
+  data-keeps Register.Cmd left filled w = either Keeping (ltb lastCommand w) (λ h. stays-refl c) (λ h. acted-keeps w _ _)
   data-keeps Register.Ctl left filled w = stays-refl c
   data-keeps Register.Mask left filled w = stays-refl c
   data-keeps Register.Lout left filled w = stays-refl c

@@ -1,5 +1,5 @@
--- A stop leaves the record as it was, with an emptied partial word; only at stop 8 the CRC register has the word fed.
--- By the cases of each definition: an outcome either goes on or is a stop over the state that it is to leave.
+-- A stop leaves the control state as it was, with an emptied partial word; only at stop 8 the CRC register has the word fed.
+-- By the cases of each definition: a transition either goes on or is a stop over the state that it is to leave.
 use mathlib.Core.Path.{_≡_, _∙_, refl, ap}
 use mathlib.Core.Bool.{Bool, true, false, false≢true}
 use Prim.Native.Nat.{ℕ, _+_}
@@ -8,7 +8,7 @@ use Rattle.crc16.specs.CrcRegister.{feed}
 use Rattle.parts.specs.Laws.Cases.{either}
 use Rattle.parts.specs.Table.{idcodeAt, lengthAt}
 use Rattle.registers.specs.RegisterAddresses.{isFdri, registerAt}
-use Rattle.registers.specs.CommandCodes.{DESYNC, LAST}
+use Rattle.registers.specs.CommandCodes.{DESYNC, lastCommand}
 use Rattle.config.specs.RegisterWrites.{withCrc}
 use Rattle.config.specs.ControlState.{withRegisters, withPartial, transition, stopped}
 use Rattle.config.specs.PacketHeaders.{ready, counted, begin, typeOneWrite, obeyed, packet}
@@ -21,8 +21,8 @@ use Rattle.registers.specs.declared.Register.{Register}
 use Rattle.registers.specs.declared.Register.the-variants as Register
 use Rattle.config.specs.declared.Open.{Open}
 use Rattle.config.specs.declared.Open.the-variants as Open
-use Rattle.config.specs.declared.Packet.{Packet}
-use Rattle.config.specs.declared.Packet.the-variants as Packet
+use Rattle.config.specs.declared.PacketHeader.{PacketHeader}
+use Rattle.config.specs.declared.PacketHeader.the-variants as PacketHeader
 use Rattle.config.specs.declared.Current.{Current}
 use Rattle.config.specs.declared.Current.the-variants as Current
 use Rattle.config.specs.declared.PartialWord.{PartialWord}
@@ -111,13 +111,13 @@ module _ (c : Control) (w : ℕ) where
   one-stops RegisterAnswer.NotWritable n = stops Stop.BadRegister
   one-stops (RegisterAnswer.Writable r) n = either Stopping (eqb n 0) (λ h. goes _ _ _ refl) (λ h. begin-stops r n)
 
-  obeyed-stops : (k : Packet) → Stopping (obeyed k c)
+  obeyed-stops : (k : PacketHeader) → Stopping (obeyed k c)
   unfolding obeyed
-  obeyed-stops Packet.Idle = goes _ _ _ refl
-  obeyed-stops Packet.Bad = stops Stop.BadHeader
-  obeyed-stops Packet.Read = stops Stop.ReadOperation
-  obeyed-stops (Packet.Write a n) = one-stops (registerAt a) n
-  obeyed-stops (Packet.LongWrite r n) = either Stopping (eqb n 0) (λ h. goes _ _ _ refl) (λ h. begin-stops r n)
+  obeyed-stops PacketHeader.Idle = goes _ _ _ refl
+  obeyed-stops PacketHeader.Bad = stops Stop.BadHeader
+  obeyed-stops PacketHeader.Read = stops Stop.ReadOperation
+  obeyed-stops (PacketHeader.Write a n) = one-stops (registerAt a) n
+  obeyed-stops (PacketHeader.LongWrite r n) = either Stopping (eqb n 0) (λ h. goes _ _ _ refl) (λ h. begin-stops r n)
 
   crc-stops : (p : Phase) → running p ≡ true → Stopping (crcWord p c w)
   unfolding checked
@@ -148,7 +148,7 @@ module _ (c : Control) (w : ℕ) where
   data-stops Register.Crc left filled = crc-stops _ (onward-runs Register.Crc left filled)
   data-stops Register.Far left filled = acted-stops _ _ _ (onward-runs Register.Far left filled)
   data-stops Register.Fdri left filled = fdri-stops left filled
-  data-stops Register.Cmd left filled = either Stopping (ltb LAST w) (λ h. stops Stop.UnknownCommand) (λ h. acted-stops _ _ _ (onward-runs Register.Cmd left filled))
+  data-stops Register.Cmd left filled = either Stopping (ltb lastCommand w) (λ h. stops Stop.UnknownCommand) (λ h. acted-stops _ _ _ (onward-runs Register.Cmd left filled))
   data-stops Register.Ctl left filled = goes _ _ _ (onward-runs Register.Ctl left filled)
   data-stops Register.Mask left filled = goes _ _ _ (onward-runs Register.Mask left filled)
   data-stops Register.Lout left filled = goes _ _ _ (onward-runs Register.Lout left filled)

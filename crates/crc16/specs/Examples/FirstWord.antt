@@ -1,4 +1,5 @@
 -- The example of 01 that is marked P, as a closed statement.
+-- By computation.
 use mathlib.Core.Path.{_≡_, refl}
 use Rattle.crc16.specs.CrcRegister.{input, shift, shiftIn, feed}
 

@@ -10,7 +10,7 @@ use lib.Bits.{bitXor, xor-shifted, xor-block, xor-zero-r}
 use Rattle.crc16.specs.CrcRegister.{feed}
 use Rattle.crc16.specs.Laws.CrcBounds.{feed-register, feed-address, feed-word}
 use Rattle.crc16.specs.Laws.Linearity.{feed-xor}
-use Rattle.crc16.specs.NibbleTable.{part, entry, entries, lookedUp, feedWith}
+use Rattle.crc16.specs.NibbleTable.{share, entry, entries, lookedUp, feedWith}
 
 abbrev Linear : (ℕ → ℕ) → Type 0
 Linear f = (a b : ℕ) → f (bitXor a b) ≡ bitXor (f a) (f b)
@@ -22,12 +22,12 @@ split f h j k x = rw (mod-pow-add x j k, ← xor-shifted (x / 2 ^ k % 2 ^ j) k (
 shl-xor : (a b : ℕ) → bitXor a b * 65536 ≡ bitXor (a * 65536) (b * 65536)
 shl-xor a b = sym (simp add-zero at (xor-block 16 a b 0 0 (omega arith) (omega arith)))
 
-part-xor : (g : ℕ) → Linear (part g)
-unfolding part
-part-xor zero a b = feed-xor a b 0 0 0 0
-part-xor (suc zero) a b = feed-xor 0 0 0 0 a b
-part-xor (suc (suc zero)) a b = rw shl-xor (feed-xor 0 0 0 0 (a * 65536) (b * 65536))
-part-xor (suc (suc (suc g))) a b = feed-xor 0 0 a b 0 0
+share-xor : (g : ℕ) → Linear (share g)
+unfolding share
+share-xor zero a b = feed-xor a b 0 0 0 0
+share-xor (suc zero) a b = feed-xor 0 0 0 0 a b
+share-xor (suc (suc zero)) a b = rw shl-xor (feed-xor 0 0 0 0 (a * 65536) (b * 65536))
+share-xor (suc (suc (suc g))) a b = feed-xor 0 0 a b 0 0
 
 entries-at : (n i k : ℕ) → k < n → getD (entries n i) k 0 ≡ entry (i + k)
 unfolding entries
@@ -36,13 +36,13 @@ entries-at (suc n) i zero h = rw add-zero
 entries-at (suc n) i (suc k) h = rw (entries-at n (suc i) k (le-of-suc-le-suc h), suc-add, add-suc)
 
 nibbles : (g x : ℕ) →
-    part g (x % 65536) ≡ bitXor (part g (x / 4096 % 16 * 4096)) (bitXor (part g (x / 256 % 16 * 256)) (bitXor (part g (x / 16 % 16 * 16)) (part g (x % 16))))
-nibbles g x = rw (split (part g) (part-xor g) 4 12 x, split (part g) (part-xor g) 4 8 x, split (part g) (part-xor g) 4 4 x)
+    share g (x % 65536) ≡ bitXor (share g (x / 4096 % 16 * 4096)) (bitXor (share g (x / 256 % 16 * 256)) (bitXor (share g (x / 16 % 16 * 16)) (share g (x % 16))))
+nibbles g x = rw (split (share g) (share-xor g) 4 12 x, split (share g) (share-xor g) 4 8 x, split (share g) (share-xor g) 4 4 x)
 
 -- a group g of the table
 module _ (g : ℕ) (hg : g < 4) where
   -- the entry of a nibble at place l of the group
-  entry-at : (l m : ℕ) → l < 4 → getD (entries 256 0) (64 * g + 16 * l + m % 16) 0 ≡ part g (m % 16 * 16 ^ l)
+  entry-at : (l m : ℕ) → l < 4 → getD (entries 256 0) (64 * g + 16 * l + m % 16) 0 ≡ share g (m % 16 * 16 ^ l)
   unfolding entry
   entry-at l m h =
       let i = 64 * g + 16 * l + m % 16 in
@@ -51,7 +51,7 @@ module _ (g : ℕ) (hg : g < 4) where
       let en : i % 16 ≡ m % 16 = omega arith in
       rw (entries-at 256 0 i (omega arith), zero-add, eg, el, en)
 
-  half-word : (x : ℕ) → lookedUp (entries 256 0) g x ≡ part g (x % 65536)
+  half-word : (x : ℕ) → lookedUp (entries 256 0) g x ≡ share g (x % 65536)
   unfolding lookedUp
   half-word x =
       let lowest = simp (add-zero, mul-one) at (entry-at 0 x (omega arith)) in
@@ -59,8 +59,8 @@ module _ (g : ℕ) (hg : g < 4) where
       (sym (nibbles g x))
 
 half-words : (c a w : ℕ) →
-    bitXor (part 0 (c % 65536)) (bitXor (part 3 (a % 65536)) (bitXor (part 2 (w / 65536 % 65536)) (part 1 (w % 65536)))) ≡ feed c a w
-unfolding part
+    bitXor (share 0 (c % 65536)) (bitXor (share 3 (a % 65536)) (bitXor (share 2 (w / 65536 % 65536)) (share 1 (w % 65536)))) ≡ feed c a w
+unfolding share
 half-words c a w =
     let word = split (feed 0 0) (feed-xor 0 0 0 0) 16 16 w in
     let low : a % 65536 % 32 ≡ a % 32 = omega arith in

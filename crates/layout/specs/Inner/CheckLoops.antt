@@ -18,7 +18,7 @@ use Rattle.numbers.specs.declared.Number.the-variants as Number
 use Rattle.layout.specs.Ownership.{ownsRun}
 use Rattle.layout.specs.Step.{Step, Reading, Read, Refused, before, listed}
 use Rattle.layout.specs.StepReading.{judgedTarget, andTarget, targetsAt, targetsRead, stepAt, andStep, stepsAt}
-use Rattle.layout.specs.Layout.{endRead, stepWords, stepsWords, verdictOf}
+use Rattle.layout.specs.Layout.{endRead, stepWordCount, stepsWordCount, verdictOf}
 use Rattle.layout.specs.Laws.StepViews.{multi-view}
 use Rattle.layout.specs.Laws.AcceptedSteps.{frames-length, targets-fit}
 use Rattle.layout.specs.declared.step.StepAt.the-variants as StepAt
@@ -30,7 +30,7 @@ run-more own (suc k) n h = simp (suc-sub-suc k 0, sub-zero)
 
 -- the verdict on a list of steps, over the words that are counted already
 unfoldable pub summed : ℕ → ℕ → Reading (List Step) → Verdict
-summed l w (Reading.Read ss next) = Verdict.Accepted (4 * (w + stepsWords l ss))
+summed l w (Reading.Read ss next) = Verdict.Accepted (4 * (w + stepsWordCount l ss))
 summed l w (Reading.Refused c at) = Verdict.Refused c at
 
 pub verdict-summed : (l : ℕ) (r : Reading (List Step)) → verdictOf l r ≡ summed l 12 r
@@ -71,11 +71,11 @@ module _ (l f : ℕ) (own : ℕ → Bool) (b : List ℕ) where
   steps-more (suc k) at h = simp (suc-sub-suc k 0, sub-zero)
 
   -- a step before the others changes nothing of the end
-  summed-before : (w : ℕ) (s : Step) (r : Reading (List Step)) → summed l w (endRead b (before s r)) ≡ summed l (w + stepWords l s) (endRead b r)
-  unfolding before endRead summed stepsWords
+  summed-before : (w : ℕ) (s : Step) (r : Reading (List Step)) → summed l w (endRead b (before s r)) ≡ summed l (w + stepWordCount l s) (endRead b r)
+  unfolding before endRead summed stepsWordCount
   summed-before w s (Reading.Read ss next) = go (ltb next (length b))
     where
-      go : (t : Bool) → summed l w (cond t (Refused Cause.Trailing next) (Read (s ∷ ss) next)) ≡ summed l (w + stepWords l s) (cond t (Refused Cause.Trailing next) (Read ss next))
+      go : (t : Bool) → summed l w (cond t (Refused Cause.Trailing next) (Read (s ∷ ss) next)) ≡ summed l (w + stepWordCount l s) (cond t (Refused Cause.Trailing next) (Read ss next))
       go true = refl
       go false = ap Verdict.Accepted (omega arith)
   summed-before w s (Reading.Refused c at) = refl
@@ -87,13 +87,13 @@ module _ (l f : ℕ) (own : ℕ → Bool) (b : List ℕ) where
 
   pub step-write : (w k at n count body next : ℕ) → 0 < k → stepAt l f own b at ≡ StepAt.FrameWrite n count body next
       → summed l w (endRead b (stepsAt l f own b k at)) ≡ summed l (w + (7 + (count + 1) * l)) (endRead b (stepsAt l f own b (k - 1) next))
-  unfolding andStep stepWords
+  unfolding andStep stepWordCount
   step-write w k at n count body next h e =
       rw (steps-more k at h, e) (summed-before w _ _ ∙ rw (frames-length l count (drop body b)))
 
   pub step-multi : (w k at count body targets next : ℕ) → 0 < k → stepAt l f own b at ≡ StepAt.MultiFrameWrite count body targets next
       → summed l w (endRead b (stepsAt l f own b k at)) ≡ summed l (w + (7 + l + 5 * count)) (endRead b (stepsAt l f own b (k - 1) next))
-  unfolding andStep stepWords listed
+  unfolding andStep stepWordCount listed
   step-multi w k at count body targets next h e =
       let v = multi-view l f own b at count body targets next e in
       rw (steps-more k at h, e)
@@ -105,6 +105,6 @@ module _ (l f : ℕ) (own : ℕ → Bool) (b : List ℕ) where
   steps-trailing w (suc k) at z h = absurd (omega arith)
 
   pub steps-accepted : (w k at : ℕ) → k ≤ 0 → length b ≤ at → summed l w (endRead b (stepsAt l f own b k at)) ≡ Verdict.Accepted (4 * w)
-  unfolding stepsAt endRead summed stepsWords
+  unfolding stepsAt endRead summed stepsWordCount
   steps-accepted w zero at z h = simp (le-ltb at (length b) h, add-zero)
   steps-accepted w (suc k) at z h = absurd (omega arith)

@@ -21,8 +21,8 @@ use Rattle.parts.specs.Laws.Cases.{either}
 use Rattle.layout.specs.Ownership.{range, owns}
 use Rattle.layout.specs.Step.{Step, Reading, Read}
 use Rattle.layout.specs.StepReading.{stepsAt}
-use Rattle.layout.specs.Layout.{layoutRead, streamWords, verdictOf, checkFor, check}
-use Rattle.layout.specs.ReferenceMachine.{allDone, madeOf, machine}
+use Rattle.layout.specs.Layout.{layoutRead, streamWordCount, verdictOf, checkFor, check}
+use Rattle.layout.specs.ReferenceMachine.{stepsApplied, madeOf, machine}
 use Rattle.layout.specs.Laws.LayoutViews.{layout-view}
 use Rattle.layout.specs.Laws.WiderRange.{narrower}
 use Rattle.layout.specs.declared.FrameRange.{FrameRange}
@@ -77,7 +77,7 @@ pub record Taken (d n : ℕ) (r : FrameRange) (b : List ℕ) : Type 0 where
   pub steps : List Step
   pub next : ℕ
   pub was-read : layoutRead (lengthAt d) (countAt d) (owns r) b d ≡ Read steps next
-  pub size : n ≡ 4 * streamWords (lengthAt d) steps
+  pub size : n ≡ 4 * streamWordCount (lengthAt d) steps
 
 abbrev Accepts : ℕ → FrameRange → List ℕ → Verdict → Type 0
 Accepts d r b (Verdict.Accepted n) = Taken d n r b
@@ -121,7 +121,7 @@ unfolding owns
 whole n f h = simp (lt-ltb n (0 + f) (omega arith), le-leb 0 n (omega arith))
 
 pub machine-done : (d : ℕ) (r : FrameRange) (b m : List ℕ) (ss : List Step) (next : ℕ) → layoutRead (lengthAt d) (countAt d) (owns r) b d ≡ Read ss next
-    → machine d b m ≡ allDone (lengthAt d) ss m
+    → machine d b m ≡ stepsApplied (lengthAt d) ss m
 unfolding madeOf
 machine-done d r b m ss next e =
     rw (narrower (lengthAt d) (countAt d) d (owns r) (owns (range 0 (countAt d))) b ss next (λ n inside o. whole n (countAt d) inside) e)

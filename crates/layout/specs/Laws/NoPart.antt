@@ -1,5 +1,5 @@
--- A step that is read for a device that names no part is always refused: where its numbers have their form and its count is not 0, as a
--- frame outside the part. The part has no frames, so that every step which could be read, and every count but 0, is above them.
+-- A step that is read for a device number that names no part is always refused: one that has its form, and a count, as a frame
+-- outside the part. There F is 0, and so every first frame plus count, and every count but 0, is above it.
 use mathlib.Core.Path.{_≡_, refl}
 use Prim.Native.Nat.{ℕ, _+_, _≤_, _<_}
 use mathlib.Core.List.{List}

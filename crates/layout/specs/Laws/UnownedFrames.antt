@@ -10,7 +10,7 @@ use Rattle.parts.specs.FrameMemory.{frameOf, placed}
 use Rattle.parts.specs.Laws.FramePlacing.{placed-other, placed-length, frame-end}
 use Rattle.layout.specs.Ownership.{ownsRun}
 use Rattle.layout.specs.Step.{Step, FrameWrite, MultiFrameWrite}
-use Rattle.layout.specs.ReferenceMachine.{written, spread, done, allDone}
+use Rattle.layout.specs.ReferenceMachine.{framesWritten, spread, stepApplied, stepsApplied}
 use Rattle.layout.specs.Laws.AcceptedSteps.{Sized, Targets, Fits, AllFit}
 
 module _ (l f : ℕ) (own : ℕ → Bool) where
@@ -34,8 +34,8 @@ module _ (l f : ℕ) (own : ℕ → Bool) where
       }
 
   written-keeps : (n : ℕ) (fs : List (List ℕ)) (m : List ℕ) → n + length fs ≤ f → ownsRun own (length fs) n ≡ true → Sized l fs → length m ≡ 4 * l * f
-      → KeepsUnowned m (written l n fs m)
-  unfolding written ownsRun
+      → KeepsUnowned m (framesWritten l n fs m)
+  unfolding framesWritten ownsRun
   written-keeps n [] m inside o sized full = keeps-all m
   written-keeps n (x ∷ xs) m inside o sized full =
       let both = and-eq-true-iff (own n) (ownsRun own (length xs) (n + 1)) .0 o in
@@ -49,27 +49,27 @@ module _ (l f : ℕ) (own : ℕ → Bool) where
       let one = placed-keeps t x m (fit .1) (fit .2) size full in
       keeps-trans m (placed l t x m) _ one (spread-keeps x (t + 1) ts (placed l t x m) size (fit .3) (one .size ∙ full))
 
-  pub done-keeps : (s : Step) (m : List ℕ) → Fits l f own s → length m ≡ 4 * l * f → KeepsUnowned m (done l s m)
-  unfolding done
+  pub done-keeps : (s : Step) (m : List ℕ) → Fits l f own s → length m ≡ 4 * l * f → KeepsUnowned m (stepApplied l s m)
+  unfolding stepApplied
   done-keeps (FrameWrite n fs) m fit full = written-keeps n fs m (fit .part) (fit .owned) (fit .sized) full
   done-keeps (MultiFrameWrite x ts) m fit full = spread-keeps x 0 ts m (fit .size) (fit .targets) full
 
-  pub all-keeps : (ss : List Step) (m : List ℕ) → AllFit l f own ss → length m ≡ 4 * l * f → KeepsUnowned m (allDone l ss m)
-  unfolding allDone
+  pub all-keeps : (ss : List Step) (m : List ℕ) → AllFit l f own ss → length m ≡ 4 * l * f → KeepsUnowned m (stepsApplied l ss m)
+  unfolding stepsApplied
   all-keeps [] m fit full = keeps-all m
   all-keeps (s ∷ ss) m fit full =
       let one = done-keeps s m (fit .0) full in
-      keeps-trans m (done l s m) _ one (all-keeps ss (done l s m) (fit .1) (one .size ∙ full))
+      keeps-trans m (stepApplied l s m) _ one (all-keeps ss (stepApplied l s m) (fit .1) (one .size ∙ full))
 
   -- every frame outside the owned ones reads the same after the steps
   pub outside-kept : (ss : List Step) (m : List ℕ) (k : ℕ) → AllFit l f own ss → length m ≡ 4 * l * f → own k ≡ false
-      → frameOf l k (allDone l ss m) ≡ frameOf l k m
+      → frameOf l k (stepsApplied l ss m) ≡ frameOf l k m
   outside-kept ss m k fit full none = all-keeps ss m fit full .others k none
 
-  pub length-kept : (ss : List Step) (m : List ℕ) → AllFit l f own ss → length m ≡ 4 * l * f → length (allDone l ss m) ≡ length m
+  pub length-kept : (ss : List Step) (m : List ℕ) → AllFit l f own ss → length m ≡ 4 * l * f → length (stepsApplied l ss m) ≡ length m
   length-kept ss m fit full = all-keeps ss m fit full .size
 
 -- "after no steps, all" frames stay
-pub no-steps : (l : ℕ) (m : List ℕ) → allDone l [] m ≡ m
-unfolding allDone
+pub no-steps : (l : ℕ) (m : List ℕ) → stepsApplied l [] m ≡ m
+unfolding stepsApplied
 no-steps l m = refl

@@ -1,5 +1,5 @@
--- What every load keeps: a consistent record stays consistent, the four flags that stay set stay set, and a load by pieces ends
--- as the joined load. Each is a theorem of a byte, carried over the bytes of a run.
+-- What every load keeps: a consistent record stays consistent, the four flags stay set, pieces join, and a stop keeps the frames
+-- stored before. Each is a theorem of a byte or a word, carried over the bytes of a run.
 use mathlib.Core.Path.{_≡_, _∙_, refl, sym, ap}
 use mathlib.Core.Logic.{_≢_}
 use mathlib.Core.List.{List, _∷_, _++_}

@@ -1,4 +1,5 @@
 -- 01's worked addresses, marked P, as a single closed statement.
+-- By computation.
 use mathlib.Core.Path.{_≡_, refl}
 use mathlib.Core.List.{[], _∷_, map}
 use Rattle.parts.specs.Table.{parts, partOf, frameCount}

@@ -157,7 +157,7 @@ pub runs-end : (p : Part) (i : ℕ) → 6 ≤ i → columnsOf (drop i (runs p)) 
 unfolding columnsOf runs
 runs-end p i h = rw (drop-of-length-le (runs p) h)
 
--- every run of a part of the table is placed
+-- every run of a part of the table fits the fields of an address
 Every : (Run → Type 0) → List Run → Type 0
 Every P [] = Unit {0}
 Every P (r ∷ rs) = P r × Every P rs

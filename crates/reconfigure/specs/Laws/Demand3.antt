@@ -18,7 +18,7 @@ use Rattle.record.specs.PowerOn.{Outcome}
 use Rattle.record.specs.declared.Record.{Record}
 use Rattle.layout.specs.Ownership.{owns}
 use Rattle.layout.specs.Layout.{check}
-use Rattle.layout.specs.ReferenceMachine.{allDone}
+use Rattle.layout.specs.ReferenceMachine.{stepsApplied}
 use Rattle.layout.specs.Laws.AcceptedSteps.{accepted-fits}
 use Rattle.layout.specs.Laws.AcceptedLayout.{accepted, machine-done}
 use Rattle.layout.specs.Laws.ByteFrames.{accepted-bytes}
@@ -63,11 +63,11 @@ module _ (d n : ℕ) (r : FrameRange) (b : List ℕ) (bytes : AreBytes b) (taken
       (w .window) (e .control) (e .frame) m (w .part) (w .buffer) room in
       let hunting : e ≡ record { phase = Phase.Hunting (w .window); control = e .control; frame = e .frame }
       = ap (λ p. record { phase = p; control = e .control; frame = e .frame }) (w .hunting) in
-      let ran-so : run e m (stream d (t .steps)) ≡ ran (end .next) (allDone (lengthAt d) (t .steps) m) (length (stream d (t .steps)))
+      let ran-so : run e m (stream d (t .steps)) ≡ ran (end .next) (stepsApplied (lengthAt d) (t .steps) m) (length (stream d (t .steps)))
       = ap (λ (x : Record). run x m (stream d (t .steps))) hunting ∙ reaches-all (end .reaches) in
       let same : streamFor d r b ≡ stream d (t .steps) = ap (streamOf d) (t .was-read) in
       let as-run = load-accepted e m (streamFor d r b) (record { fits = w .consistent; sized = rw (w .part) (w .memory) }) in
-      let loaded : load e m (streamFor d r b) ≡ finished (ran (end .next) (allDone (lengthAt d) (t .steps) m) (length (stream d (t .steps)))) = rw (as-run, same, ran-so) in
+      let loaded : load e m (streamFor d r b) ≡ finished (ran (end .next) (stepsApplied (lengthAt d) (t .steps) m) (length (stream d (t .steps)))) = rw (as-run, same, ran-so) in
       let made = machine-done d r b m (t .steps) (t .next) (t .was-read) in
       record {
         stop = rw (loaded, end .hunts);

@@ -29,7 +29,7 @@ use Rattle.config.specs.declared.Phase.the-variants as Phase
 use Rattle.config.specs.declared.Event.the-variants as Event
 use Rattle.layout.specs.Laws.AcceptedSteps.{Sized}
 use Rattle.layout.specs.Laws.ByteFrames.{AllBytes}
-use Rattle.layout.specs.ReferenceMachine.{written}
+use Rattle.layout.specs.ReferenceMachine.{framesWritten}
 use Rattle.stream.specs.StreamPackets.{Packet, header1, header2, packetWords}
 use Rattle.stream.specs.Stream.{wordsFrom, framesWords}
 use Rattle.stream.specs.Laws.StreamLength.{words-length, frames-words}
@@ -139,8 +139,8 @@ module _ (d k : ℕ) (b : Bool) (positive : 0 < lengthAt d) where
   pub frames-lead : (fs : List (List ℕ)) (v j n : ℕ) (c : Current) (buffer m : List ℕ) → 0 < j → n + length fs ≤ countAt d → Aims n c fs → AllBytes fs → Sized (lengthAt d) fs
       → length buffer ≡ lengthAt d → length m ≡ 4 * lengthAt d * countAt d
       → ReachesView (filling (j + length fs * lengthAt d) 0 d v k c b buffer) m (framesWords (lengthAt d) fs)
-      (filling j 0 d (fedWords v 2 (framesWords (lengthAt d) fs)) k (reached d n c fs) b (held (lengthAt d) buffer fs)) (written (lengthAt d) n fs m)
-  unfolding framesWords fedWords reached held written
+      (filling j 0 d (fedWords v 2 (framesWords (lengthAt d) fs)) k (reached d n c fs) b (held (lengthAt d) buffer fs)) (framesWritten (lengthAt d) n fs m)
+  unfolding framesWords fedWords reached held framesWritten
   frames-lead [] v j n c buffer m more inside at bytes sized full room = no-frames v j c buffer m
   frames-lead (x ∷ xs) v j n c buffer m more inside at bytes sized full room =
       then-frames v j n x buffer m xs c _ _ _ more (omega arith) (bytes .0) (sized .0) full room at
@@ -159,15 +159,15 @@ module _ (d v n : ℕ) (c : Current) (b : Bool) (fs : List (List ℕ)) (ws buffe
   count = omega (arith, length-append (framesWords (lengthAt d) fs) ws, frames-words (lengthAt d) fs, suc-mul (length fs) (lengthAt d))
 
   -- the frames, and the last one
-  words-lead : ReachesView (filling (length all) 0 d v 1 c b buffer) m all (stands Phase.Crc d (fedWords v 2 all) 1 (reached d n c fs) true ws) (written (lengthAt d) n fs m)
+  words-lead : ReachesView (filling (length all) 0 d v 1 c b buffer) m all (stands Phase.Crc d (fedWords v 2 all) 1 (reached d n c fs) true ws) (framesWritten (lengthAt d) n fs m)
   words-lead =
       let sum : length all ≡ lengthAt d + length fs * lengthAt d = omega (arith, count, suc-mul (length fs) (lengthAt d)) in
       rw (sum, ← fed-append v 2 (framesWords (lengthAt d) fs) ws)
       (view-on (frames-lead d 1 b positive fs v (lengthAt d) n c buffer m positive inside at bytes sized full room)
-      (last-frame d (fedWords v 2 (framesWords (lengthAt d) fs)) 1 b (held (lengthAt d) buffer fs) ws (written (lengthAt d) n fs m) positive small size
+      (last-frame d (fedWords v 2 (framesWords (lengthAt d) fs)) 1 b (held (lengthAt d) buffer fs) ws (framesWritten (lengthAt d) n fs m) positive small size
       (held-length (lengthAt d) buffer fs full) (reached d n c fs)))
 
-  pub data-reaches : ReachesView (waiting d v 1 c b buffer) m (packetWords v (Packet.FrameData all)) (waiting d 0 1 (reached d n c fs) true ws) (written (lengthAt d) n fs m)
+  pub data-reaches : ReachesView (waiting d v 1 c b buffer) m (packetWords v (Packet.FrameData all)) (waiting d 0 1 (reached d n c fs) true ws) (framesWritten (lengthAt d) n fs m)
   unfolding packetWords addressOf
   data-reaches =
       let some : 0 < length all = omega (arith, count, suc-mul (length fs) (lengthAt d)) in
@@ -175,4 +175,4 @@ module _ (d v n : ℕ) (c : Current) (b : Bool) (fs : List (List ℕ)) (ws buffe
       let most = mul-le-mul few (length-fits d) in
       let whole : length all % lengthAt d ≡ 0 = rw count (mul-mod-left (suc (length fs)) (lengthAt d)) in
       view-on (headers-lead d v (length all) c b buffer m some (omega (arith, count, most)) whole)
-      (view-on words-lead (auto-reaches d (fedWords v 2 all) 1 (reached d n c fs) true ws (written (lengthAt d) n fs m)))
+      (view-on words-lead (auto-reaches d (fedWords v 2 all) 1 (reached d n c fs) true ws (framesWritten (lengthAt d) n fs m)))

@@ -14,7 +14,7 @@ use Rattle.config.specs.declared.Open.the-variants as Open
 use Rattle.config.specs.ControlState.{transition}
 use Rattle.config.specs.PacketHeaders.{typeOf, operation, registerField, count1, count2, type1, type2, packet, ready, counted, begin, typeOneWrite, obeyed}
 use Rattle.config.specs.DataWords.{dataWord, word}
-use Rattle.config.specs.declared.Packet.the-variants as Packet
+use Rattle.config.specs.declared.PacketHeader.the-variants as PacketHeader
 use Rattle.config.specs.declared.PartialWord.the-variants as PartialWord
 use Rattle.config.specs.declared.Control.{Control}
 use Rattle.config.specs.declared.Phase.the-variants as Phase
@@ -32,7 +32,7 @@ module _ (r : Register) (n : ℕ) (small : n < 2 ^ 11) where
   pub header-fits : header1 r n < 2 ^ 32
   header-fits = omega (arith, address-bound r)
 
-  pub header-one : (o : Open) → packet o (header1 r n) ≡ Packet.Write (addressOf r) n
+  pub header-one : (o : Open) → packet o (header1 r n) ≡ PacketHeader.Write (addressOf r) n
   unfolding packet type1
   header-one o =
       let a = address-bound r in
@@ -44,7 +44,7 @@ module _ (r : Register) (n : ℕ) (small : n < 2 ^ 11) where
       simp (ne-eqb w 0 (omega (arith, a)), kind, act, field, count)
 
 -- a type 2 write header, after a type 1 header of count 0
-pub header-two : (r : Register) (n : ℕ) → n < 2 ^ 27 → packet (Open.After r) (header2 n) ≡ Packet.LongWrite r n
+pub header-two : (r : Register) (n : ℕ) → n < 2 ^ 27 → packet (Open.After r) (header2 n) ≡ PacketHeader.LongWrite r n
 unfolding packet type2
 header-two r n small =
     let w = header2 n in

@@ -9,7 +9,7 @@ use borrow.Author.Tests.{le-ltb}
 use Rattle.crc16.specs.CrcRegister.{feed, checkWord}
 use Rattle.crc16.specs.Laws.CheckWord.{check-word-passes, check-word-small}
 use Rattle.registers.specs.RegisterAddresses.{addressOf}
-use Rattle.registers.specs.CommandCodes.{WCFG, MFWR, LAST}
+use Rattle.registers.specs.CommandCodes.{WCFG, MFWR, lastCommand}
 use Rattle.registers.specs.declared.Register.the-variants as Register
 use Rattle.config.specs.declared.Open.the-variants as Open
 use Rattle.config.specs.CurrentFrame.{named}
@@ -34,7 +34,7 @@ passed c = withFlags (raised Register.Crc (c .flags)) (withRegisters (withCrc 0 
 -- ---- commands that act on nothing
 
 pub record Quiet (k : ℕ) : Type 0 where
-  pub known : k ≤ LAST
+  pub known : k ≤ lastCommand
   pub idle : (p : Phase) (c : Control) → acted k p c ≡ transition p c Event.Nothing
   pub fed-on : (v : ℕ) → crcOf v (Packet.Command k) ≡ feed v 4 k
 
@@ -47,9 +47,9 @@ unfolding acted signalled commandCrc commandPhase crcOf addressOf
 mfwr-quiet = record { known = omega arith; idle = λ p c. refl; fed-on = λ v. refl }
 
 -- what the control machine makes of a command
-pub command-word : (k : ℕ) (c : Control) → k ≤ LAST → dataWord Register.Cmd 1 0 c k ≡ acted k (Phase.Header Open.Closed) (put Register.Cmd k c)
+pub command-word : (k : ℕ) (c : Control) → k ≤ lastCommand → dataWord Register.Cmd 1 0 c k ≡ acted k (Phase.Header Open.Closed) (put Register.Cmd k c)
 unfolding dataWord cmdWord onward ended addressOf
-command-word k c known = simp (le-ltb LAST k known)
+command-word k c known = simp (le-ltb lastCommand k known)
 
 -- ---- from a state to the next
 

@@ -13,13 +13,13 @@ use Rattle.parts.specs.Laws.WordBytes.{AreWords, AreBytes}
 use Rattle.parts.specs.Laws.FramePlacing.{frame-end, placed-length}
 use Rattle.parts.specs.FrameAddress.{frameAddress, addressTold}
 use Rattle.parts.specs.Laws.FrameNumbers.{number-address-number, address-fits, has-address}
-use Rattle.config.specs.CurrentFrame.{currentOf, named}
+use Rattle.config.specs.CurrentFrame.{currentFrom, named}
 use Rattle.config.specs.declared.Current.{Current}
 use Rattle.config.specs.declared.Current.the-variants as Current
 use Rattle.layout.specs.Step.{Step, FrameWrite, MultiFrameWrite}
 use Rattle.layout.specs.Laws.AcceptedSteps.{FitsWrite, FitsMulti, Fits, AllFit, Targets}
 use Rattle.layout.specs.Laws.ByteFrames.{ByteStep, ByteSteps}
-use Rattle.layout.specs.ReferenceMachine.{written, spread, done, allDone}
+use Rattle.layout.specs.ReferenceMachine.{framesWritten, spread, stepApplied, stepsApplied}
 use Rattle.layout.specs.Laws.UnownedFrames.{done-keeps}
 use Rattle.stream.specs.StreamPackets.{Packet, crcOf, packetWords, packetsWords}
 use Rattle.stream.specs.Stream.{wordsFrom, framesWords, toFrame, further, spreadPackets, stepPackets, stepsPackets}
@@ -50,13 +50,13 @@ record Named (d n : ℕ) : Type 0 where
   small : addressTold (frameAddress d n) < 2 ^ 32
 
 frame-named : (d n : ℕ) → d ≤ 7 → n < countAt d → Named d n
-unfolding addressTold currentOf
+unfolding addressTold currentFrom
 frame-named d n known inside =
     let f = figures d known in
     let found = has-address d (f .part) n (f .known) (omega (arith, f .count)) in
     let a : addressTold (frameAddress d n) ≡ found .0 = ap addressTold (found .1) in
     let fits = address-fits d n (found .0) (found .1) in
-    record { names = rw a (ap currentOf (number-address-number d n (found .0) (found .1))); small = omega (arith, fits, a) }
+    record { names = rw a (ap currentFrom (number-address-number d n (found .0) (found .1))); small = omega (arith, fits, a) }
 
 module _ (d : ℕ) (known : d ≤ 7) where
   far-reaches : (v k n : ℕ) (c : Current) (b : Bool) (buffer m : List ℕ) → Quiet k → n < countAt d
@@ -136,7 +136,7 @@ module _ (d : ℕ) (known : d ≤ 7) (own : ℕ → Bool) where
 
   module _ (v k : ℕ) (c : Current) (b : Bool) (buffer m : List ℕ) (full : length buffer ≡ lengthAt d) (room : length m ≡ 4 * lengthAt d * countAt d) where
     write-reached : (n : ℕ) (fs : List (List ℕ)) → FitsWrite (lengthAt d) (countAt d) own n fs → ByteStep (FrameWrite n fs)
-        → Reached d (crcAfter v (stepPackets d (FrameWrite n fs))) (waiting d v k c b buffer) m (packetsWords v (stepPackets d (FrameWrite n fs))) (written (lengthAt d) n fs m)
+        → Reached d (crcAfter v (stepPackets d (FrameWrite n fs))) (waiting d v k c b buffer) m (packetsWords v (stepPackets d (FrameWrite n fs))) (framesWritten (lengthAt d) n fs m)
     unfolding stepPackets crcAfter crcOf
     write-reached n fs fit bytes =
         let v₁ = crcOf v (Packet.Command 1) in
@@ -158,7 +158,7 @@ module _ (d : ℕ) (known : d ≤ 7) (own : ℕ → Bool) where
     multi-reached : (x : List ℕ) (t : ℕ) (ts : List ℕ) → FitsMulti (lengthAt d) (countAt d) own x (t ∷ ts) → AreBytes x
         → Reached d (crcAfter v (stepPackets d (MultiFrameWrite x (t ∷ ts)))) (waiting d v k c b buffer) m (packetsWords v (stepPackets d (MultiFrameWrite x (t ∷ ts))))
         (spread (lengthAt d) x (t ∷ ts) m)
-    unfolding stepPackets crcAfter crcOf framesWords reached written
+    unfolding stepPackets crcAfter crcOf framesWords reached framesWritten
     multi-reached x t ts fit bytes =
         let v₁ = crcOf v (Packet.Command 1) in
         let ws = wordsFrom (lengthAt d) x in
@@ -175,8 +175,8 @@ module _ (d : ℕ) (known : d ≤ 7) (own : ℕ → Bool) where
         }
 
     step-reached : (s : Step) → Fits (lengthAt d) (countAt d) own s → ByteStep s
-        → Reached d (crcAfter v (stepPackets d s)) (waiting d v k c b buffer) m (packetsWords v (stepPackets d s)) (done (lengthAt d) s m)
-    unfolding done
+        → Reached d (crcAfter v (stepPackets d s)) (waiting d v k c b buffer) m (packetsWords v (stepPackets d s)) (stepApplied (lengthAt d) s m)
+    unfolding stepApplied
     step-reached (FrameWrite n fs) fit bytes = write-reached n fs fit bytes
     step-reached (MultiFrameWrite x []) fit bytes = absurd (omega (arith, fit .positive))
     step-reached (MultiFrameWrite x (t ∷ ts)) fit bytes = multi-reached x t ts fit bytes
@@ -196,11 +196,11 @@ module _ (d : ℕ) (known : d ≤ 7) (own : ℕ → Bool) where
   -- 01: "Each step works on what the last one left"
   pub steps-reached : (ss : List Step) (v k : ℕ) (c : Current) (b : Bool) (buffer m : List ℕ) → AllFit (lengthAt d) (countAt d) own ss → ByteSteps ss
       → length buffer ≡ lengthAt d → length m ≡ 4 * lengthAt d * countAt d
-      → Reached d (crcAfter v (stepsPackets d ss)) (waiting d v k c b buffer) m (packetsWords v (stepsPackets d ss)) (allDone (lengthAt d) ss m)
-  unfolding stepsPackets crcAfter allDone
+      → Reached d (crcAfter v (stepsPackets d ss)) (waiting d v k c b buffer) m (packetsWords v (stepsPackets d ss)) (stepsApplied (lengthAt d) ss m)
+  unfolding stepsPackets crcAfter stepsApplied
   steps-reached [] v k c b buffer m fit bytes full room = none-reached v k c b buffer m full
   steps-reached (s ∷ ss) v k c b buffer m fit bytes full room =
       let one = step-reached v k c b buffer m full room s (fit .0) (bytes .0) in
       then-steps v (stepPackets d s) (stepsPackets d ss) _ one
-      (steps-reached ss (crcAfter v (stepPackets d s)) (one .cmd) (one .current) (one .valid) (one .buffer) (done (lengthAt d) s m) (fit .1) (bytes .1) (one .full)
+      (steps-reached ss (crcAfter v (stepPackets d s)) (one .cmd) (one .current) (one .valid) (one .buffer) (stepApplied (lengthAt d) s m) (fit .1) (bytes .1) (one .full)
       (done-keeps (lengthAt d) (countAt d) own s m (fit .0) room .size ∙ room))

@@ -32,7 +32,7 @@ use Rattle.record.specs.declared.Record.{Record}
 use Rattle.layout.specs.Step.{Step}
 use Rattle.layout.specs.Laws.AcceptedSteps.{AllFit}
 use Rattle.layout.specs.Laws.ByteFrames.{ByteSteps}
-use Rattle.layout.specs.ReferenceMachine.{allDone}
+use Rattle.layout.specs.ReferenceMachine.{stepsApplied}
 use Rattle.stream.specs.StreamPackets.{crcOf, packetWords, packetsWords}
 use Rattle.stream.specs.Stream.{stepsPackets, heading, ending, streamPackets, wordsOf}
 use Rattle.stream.specs.Laws.PacketsJoined.{crcAfter, words-append}
@@ -124,14 +124,14 @@ ending-reaches d v k n b buffer m e h =
 module _ (d : ℕ) (known : d ≤ 7) (own : ℕ → Bool) (ss : List Step) (fits : AllFit (lengthAt d) (countAt d) own ss) (bytes : ByteSteps ss) where
   -- the packets after the sync word
   packets-reach : (c : Control) (f m : List ℕ) → c .device ≡ d → c .partial ≡ PartialWord.Zero → length f ≡ 213 → length m ≡ 4 * lengthAt d * countAt d
-      → ReachesHunting (recordOf (Phase.Header Open.Closed) c f) m (packetsWords 0 (streamPackets d ss)) (allDone (lengthAt d) ss m)
+      → ReachesHunting (recordOf (Phase.Header Open.Closed) c f) m (packetsWords 0 (streamPackets d ss)) (stepsApplied (lengthAt d) ss m)
   packets-reach c f m at empty full room =
       let v₁ = crcAfter 0 (heading d) in
       let v₂ = crcAfter v₁ (stepsPackets d ss) in
       let counts = length-take-le (lengthAt d) f (omega (arith, length-fits d)) in
       let steps = steps-reached d known own ss v₁ 7 (c .current) (c .flags .«buffer_valid») (take (lengthAt d) f) m fits bytes counts room in
       let done = steps .runs-to .from (recordOf (Phase.Header Open.Closed) (opened d known c f m at empty) f) (heading-seen d known c f m at empty full) in
-      let last = ending-reaches d v₂ (steps .cmd) (steps .current) (steps .valid) (steps .buffer) (allDone (lengthAt d) ss m) (done .next) (done .seen) in
+      let last = ending-reaches d v₂ (steps .cmd) (steps .current) (steps .valid) (steps .buffer) (stepsApplied (lengthAt d) ss m) (done .next) (done .seen) in
       rw (words-append 0 (heading d) (stepsPackets d ss ++ ending), words-append v₁ (stepsPackets d ss) ending)
       (record {
         next = last .next;
@@ -142,7 +142,7 @@ module _ (d : ℕ) (known : d ≤ 7) (own : ℕ → Bool) (ss : List Step) (fits
 
   -- all words, from any record of the part that hunts
   pub stream-reaches : (b : PartialWord) (c : Control) (f m : List ℕ) → c .device ≡ d → length f ≡ 213 → length m ≡ 4 * lengthAt d * countAt d
-      → ReachesHunting (recordOf (Phase.Hunting b) c f) m (wordsOf d ss) (allDone (lengthAt d) ss m)
+      → ReachesHunting (recordOf (Phase.Hunting b) c f) m (wordsOf d ss) (stepsApplied (lengthAt d) ss m)
   unfolding wordsOf
   stream-reaches b c f m at full room =
       let rest = packets-reach (withPartial PartialWord.Zero c) f m at refl full room in

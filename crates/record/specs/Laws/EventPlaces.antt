@@ -11,7 +11,7 @@ use Rattle.parts.specs.Laws.Cases.{either}
 use Rattle.parts.specs.Table.{idcodeAt, lengthAt, countAt}
 use Rattle.parts.specs.Laws.Figures.{figures}
 use Rattle.registers.specs.RegisterAddresses.{addressOf}
-use Rattle.registers.specs.CommandCodes.{LAST}
+use Rattle.registers.specs.CommandCodes.{lastCommand}
 use Rattle.config.specs.ControlState.{withPartial}
 use Rattle.config.specs.PacketHeaders.{headerWord}
 use Rattle.config.specs.Commands.{acted}
@@ -70,7 +70,7 @@ module _ (c : Control) (w : ℕ) where
   data-asked Register.Fdri left filled =
       either (Asks (Phase.Data Register.Fdri left filled)) (leb left 1) (λ t. (left, refl, refl))
       (λ t. either (Asks (Phase.Data Register.Fdri left filled)) (ltb (filled + 1) (lengthAt (c .device))) (λ t. (left, refl, refl)) (λ t. stored-asked (c .current) refl left filled))
-  data-asked Register.Cmd left filled = either (Asks (Phase.Data Register.Cmd left filled)) (ltb LAST w) (λ t. tt) (λ t. tt)
+  data-asked Register.Cmd left filled = either (Asks (Phase.Data Register.Cmd left filled)) (ltb lastCommand w) (λ t. tt) (λ t. tt)
   data-asked Register.Ctl left filled = tt
   data-asked Register.Mask left filled = tt
   data-asked Register.Lout left filled = tt

@@ -16,9 +16,9 @@ use Rattle.parts.specs.FrameAddress.{frameNumber}
 use Rattle.parts.specs.Laws.FrameNumbers.{number-below}
 use Rattle.parts.specs.declared.frame.NumberAnswer.{NumberAnswer}
 use Rattle.parts.specs.declared.frame.NumberAnswer.the-variants as NumberAnswer
-use Rattle.config.specs.CurrentFrame.{currentOf, named}
+use Rattle.config.specs.CurrentFrame.{currentFrom, named}
 use Rattle.registers.specs.RegisterAddresses.{addressOf, isFdri, isMfwr, isLout, registerAt}
-use Rattle.registers.specs.CommandCodes.{RCRC, DESYNC, LAST}
+use Rattle.registers.specs.CommandCodes.{RCRC, DESYNC, lastCommand}
 use Rattle.config.specs.RegisterWrites.{withCrc, hold, fedCrc, written}
 use Rattle.config.specs.ControlState.{withRegisters, withFlags, withPartial, stopped}
 use Rattle.config.specs.PacketHeaders.{operation, count1, typeOf, type1, type2, packet, ready, counted, begin, typeOneWrite, obeyed}
@@ -33,8 +33,8 @@ use Rattle.registers.specs.declared.Register.the-variants as Register
 use Rattle.config.specs.declared.Registers.{Registers}
 use Rattle.config.specs.declared.Open.{Open}
 use Rattle.config.specs.declared.Open.the-variants as Open
-use Rattle.config.specs.declared.Packet.{Packet}
-use Rattle.config.specs.declared.Packet.the-variants as Packet
+use Rattle.config.specs.declared.PacketHeader.{PacketHeader}
+use Rattle.config.specs.declared.PacketHeader.the-variants as PacketHeader
 use Rattle.config.specs.declared.Flags.{Flags}
 use Rattle.config.specs.declared.Current.{Current}
 use Rattle.config.specs.declared.Current.the-variants as Current
@@ -54,7 +54,7 @@ Sound c = record {
   device : c .device ≤ 7;
   current : currentFits (c .device) (c .current) ≡ true;
   crc : c .registers .crc < 65536;
-  cmd : c .registers .cmd ≤ LAST;
+  cmd : c .registers .cmd ≤ lastCommand;
 }
 
 abbrev pub Consistent : Phase → Control → Type 0
@@ -71,7 +71,7 @@ to-items p c t =
 
 pub from-items : (p : Phase) (c : Control) → Consistent p c → consistent p c ≡ true
 unfolding consistent
-from-items p c k = simp (le-leb (c .device) 7 (k .state .device), k .state .current, lt-ltb (c .registers .crc) 65536 (k .state .crc), le-leb (c .registers .cmd) LAST (k .state .cmd), k .phase)
+from-items p c k = simp (le-leb (c .device) 7 (k .state .device), k .state .current, lt-ltb (c .registers .crc) 65536 (k .state .crc), le-leb (c .registers .cmd) lastCommand (k .state .cmd), k .phase)
 
 -- a step to a consistent state
 abbrev pub Fine : Transition → Type 0
@@ -95,7 +95,7 @@ written-crc : (r : Register) (w : ℕ) (q : Registers) → written r w q .crc �
 unfolding hold
 written-crc r w q = refl
 
-put-sound : (r : Register) (w : ℕ) (c : Control) → Sound c → written r w (c .registers) .cmd ≤ LAST → Sound (put r w c)
+put-sound : (r : Register) (w : ℕ) (c : Control) → Sound c → written r w (c .registers) .cmd ≤ lastCommand → Sound (put r w c)
 put-sound r w c s h = record { device = s .device; current = s .current; crc = rw (written-crc r w (c .registers)) (fed-lt r w _ (s .crc)); cmd = h }
 
 -- ---- the phase after one of the words left, of a register other than FDRI and MFWR
@@ -165,10 +165,10 @@ filled-up left filled l k h b =
 
 -- 01: the frame that an address names is under F
 pub named-fits : (d a : ℕ) → d ≤ 7 → currentFits d (named d a) ≡ true
-unfolding currentFits currentOf
+unfolding currentFits currentFrom
 named-fits d a h = go (frameNumber d a) refl
   where
-    go : (q : NumberAnswer) → frameNumber d a ≡ q → currentFits d (currentOf q) ≡ true
+    go : (q : NumberAnswer) → frameNumber d a ≡ q → currentFits d (currentFrom q) ≡ true
     go (NumberAnswer.Number n) e = let f = figures d h in lt-ltb n (countAt d) (omega (arith, number-below d (f .part) a n (f .known) e, f .count))
     go NumberAnswer.NoFrame e = refl
     go NumberAnswer.UnknownDevice e = refl
@@ -212,7 +212,7 @@ module _ (c : Control) (s : Sound c) where
   -- ---- data words
 
   -- a word to a register other than FDRI and MFWR is written, and flags may change
-  put-fine : (r : Register) (left filled w : ℕ) (f : Flags) → isFdri r ≡ false → isMfwr r ≡ false → written r w (c .registers) .cmd ≤ LAST
+  put-fine : (r : Register) (left filled w : ℕ) (f : Flags) → isFdri r ≡ false → isMfwr r ≡ false → written r w (c .registers) .cmd ≤ lastCommand
       → phaseFits (Phase.Data r left filled) c ≡ true → Consistent (onward r left filled) (withFlags f (put r w c))
   put-fine r left filled w f d m k h = record { state = put-sound r w c s k; phase = onward-free r left filled c d m h _ }
 
@@ -224,7 +224,7 @@ module _ (c : Control) (s : Sound c) where
       acted-fine _ _ _ (record { device = s .device; current = named-fits (c .device) w (s .device); crc = q .crc; cmd = s .cmd }) (onward-free Register.Far left filled c refl refl h)
   data-fine Register.Fdri left filled w h = fdri-fine left filled w (to-filling left filled c h)
   data-fine Register.Cmd left filled w h =
-      either Fine (ltb LAST w) (λ t. stop-fine _ c s) (λ t. acted-fine w _ _ (put-sound Register.Cmd w c s (ltb-false LAST w t)) (onward-free Register.Cmd left filled c refl refl h))
+      either Fine (ltb lastCommand w) (λ t. stop-fine _ c s) (λ t. acted-fine w _ _ (put-sound Register.Cmd w c s (ltb-false lastCommand w t)) (onward-free Register.Cmd left filled c refl refl h))
   data-fine Register.Ctl left filled w h = put-fine Register.Ctl left filled w _ refl refl (s .cmd) h
   data-fine Register.Mask left filled w h = put-fine Register.Mask left filled w _ refl refl (s .cmd) h
   data-fine Register.Lout left filled w h = put-fine Register.Lout left filled w _ refl refl (s .cmd) h
@@ -238,12 +238,12 @@ module _ (c : Control) (s : Sound c) where
 -- ---- headers
 
 -- 01: counts of 11 and of 27 bits
-abbrev Short : Packet → Type 0
-Short Packet.Idle = Unit {0}
-Short Packet.Bad = Unit {0}
-Short Packet.Read = Unit {0}
-Short (Packet.Write a n) = n ≤ 134217727
-Short (Packet.LongWrite r n) = n ≤ 134217727
+abbrev Short : PacketHeader → Type 0
+Short PacketHeader.Idle = Unit {0}
+Short PacketHeader.Bad = Unit {0}
+Short PacketHeader.Read = Unit {0}
+Short (PacketHeader.Write a n) = n ≤ 134217727
+Short (PacketHeader.LongWrite r n) = n ≤ 134217727
 
 one-short : (w : ℕ) → Short (type1 w)
 unfolding type1
@@ -291,13 +291,13 @@ module _ (c : Control) (s : Sound c) where
   one-fine RegisterAnswer.NotWritable n h = stop-fine Stop.BadRegister c s
   one-fine (RegisterAnswer.Writable r) n h = either Fine (eqb n 0) (λ t. record { state = s; phase = refl }) (λ t. begin-fine r n t h)
 
-  obeyed-fine : (k : Packet) → Short k → Fine (obeyed k c)
+  obeyed-fine : (k : PacketHeader) → Short k → Fine (obeyed k c)
   unfolding obeyed phaseFits
-  obeyed-fine Packet.Idle h = record { state = s; phase = refl }
-  obeyed-fine Packet.Bad h = stop-fine Stop.BadHeader c s
-  obeyed-fine Packet.Read h = stop-fine Stop.ReadOperation c s
-  obeyed-fine (Packet.Write a n) h = one-fine (registerAt a) n h
-  obeyed-fine (Packet.LongWrite r n) h = either Fine (eqb n 0) (λ t. record { state = s; phase = refl }) (λ t. begin-fine r n t h)
+  obeyed-fine PacketHeader.Idle h = record { state = s; phase = refl }
+  obeyed-fine PacketHeader.Bad h = stop-fine Stop.BadHeader c s
+  obeyed-fine PacketHeader.Read h = stop-fine Stop.ReadOperation c s
+  obeyed-fine (PacketHeader.Write a n) h = one-fine (registerAt a) n h
+  obeyed-fine (PacketHeader.LongWrite r n) h = either Fine (eqb n 0) (λ t. record { state = s; phase = refl }) (λ t. begin-fine r n t h)
 
 -- ---- words and bytes
 

@@ -17,7 +17,7 @@ use Rattle.record_image.specs.Image.{imageWords, image, recordLength, en
 use Rattle.record_image.specs.Compare.{isImage, acceptedImage}
 use Rattle.record_image.specs.Decode.{wordAt, wordsAt, pendingOf, phaseOf, partialOf, currentOf, registersOf, controlOf, decoded}
 use Rattle.record_image.specs.Laws.KeptRecord.{PhaseInRange, CurrentInRange, InRange, Lossless}
-use Rattle.record_image.specs.Laws.KeptRecord.{AreBytes as PartialBytes}
+use Rattle.record_image.specs.Laws.KeptRecord.{PartialBytes}
 use Rattle.record_image.specs.Inner.ImageStores.{words-length}
 use Rattle.record_image.specs.Laws.ImageRoundTrip.{decode-image, accepted-image, image-accepted}
 
@@ -45,9 +45,9 @@ module _ (bytes : List ℕ) (small : AreBytes bytes) where
   words-small k zero = tt
   words-small k (suc n) = (word-small k, words-small (suc k) n)
 
-  phase-small : (number subject j k : ℕ) (window : PartialWord) → PartialBytes window → PhaseInRange (phaseOf number subject (wordAt bytes j) (wordAt bytes k) window)
+  phase-small : (number argument j k : ℕ) (window : PartialWord) → PartialBytes window → PhaseInRange (phaseOf number argument (wordAt bytes j) (wordAt bytes k) window)
   unfolding phaseOf
-  phase-small number subject j k window h =
+  phase-small number argument j k window h =
       either PhaseInRange (eqb number 0) (λ _. h)
       (λ _. either PhaseInRange (eqb number 1) (λ _. tt)
       (λ _. either PhaseInRange (eqb number 2) (λ _. (word-small j, word-small k))

@@ -17,7 +17,7 @@ use Rattle.parts.specs.Table.{idcodeAt, lengthAt, countAt}
 use Rattle.parts.specs.Laws.Figures.{length-fits, count-fits}
 use Rattle.registers.specs.RegisterAddresses.{addressOf, isFdri, isLout, registerAt}
 use Rattle.config.specs.RegisterWrites.{masked, hold, fedCrc, written}
-use Rattle.registers.specs.CommandCodes.{LAST}
+use Rattle.registers.specs.CommandCodes.{RCRC, lastCommand}
 use Rattle.config.specs.ControlState.{withPartial, stopped}
 use Rattle.config.specs.PacketHeaders.{ready, counted, begin, typeOneWrite, obeyed, packet}
 use Rattle.config.specs.Commands.{commandCrc, commandPhase, acted}
@@ -33,8 +33,8 @@ use Rattle.registers.specs.declared.Register.{Register}
 use Rattle.registers.specs.declared.Register.the-variants as Register
 use Rattle.config.specs.declared.Open.{Open}
 use Rattle.config.specs.declared.Open.the-variants as Open
-use Rattle.config.specs.declared.Packet.{Packet}
-use Rattle.config.specs.declared.Packet.the-variants as Packet
+use Rattle.config.specs.declared.PacketHeader.{PacketHeader}
+use Rattle.config.specs.declared.PacketHeader.the-variants as PacketHeader
 use Rattle.config.specs.declared.PartialWord.{PartialWord}
 use Rattle.config.specs.declared.PartialWord.the-variants as PartialWord
 use Rattle.config.specs.declared.Current.{Current}
@@ -48,7 +48,7 @@ use Rattle.config.specs.declared.Event.the-variants as Event
 use Rattle.config.specs.declared.Transition.{Transition}
 use Rattle.record.specs.declared.Record.{Record}
 use Rattle.record_image.specs.Image.{registerWords}
-use Rattle.record_image.specs.Laws.KeptRecord.{AreBytes, PhaseInRange, CurrentInRange, keptPhase, keptPartial, keptCurrent, Lossless}
+use Rattle.record_image.specs.Laws.KeptRecord.{PartialBytes, PhaseInRange, CurrentInRange, keptPhase, keptPartial, keptCurrent, Lossless}
 use Rattle.record_image.specs.Laws.Remembered.{Held, Remembered, KeepsWord}
 
 -- ---- registers
@@ -103,7 +103,7 @@ unfolding acted commandCrc
 acted-left k p c h e s = record {
   held = after-held k p h;
   empty = e;
-  registers = (either (λ (n : ℕ). n < 2 ^ 32) (eqb k 7) (λ _. omega arith) (λ _. s .0), s .1);
+  registers = (either (λ (n : ℕ). n < 2 ^ 32) (eqb k RCRC) (λ _. omega arith) (λ _. s .0), s .1);
 }
 
 module _ (c : Control) (empty : c .partial ≡ PartialWord.Zero) (small : AreWords (registerWords (c .registers))) where
@@ -125,13 +125,13 @@ module _ (c : Control) (empty : c .partial ≡ PartialWord.Zero) (small : AreWor
   one-left RegisterAnswer.NotWritable n = stop-left _
   one-left (RegisterAnswer.Writable r) n = either Left (eqb n 0) (λ _. plain _ _ tt) (λ _. begin-left r n)
 
-  obeyed-left : (k : Packet) → Left (obeyed k c)
+  obeyed-left : (k : PacketHeader) → Left (obeyed k c)
   unfolding obeyed
-  obeyed-left Packet.Idle = plain _ _ tt
-  obeyed-left Packet.Bad = stop-left _
-  obeyed-left Packet.Read = stop-left _
-  obeyed-left (Packet.Write a n) = one-left (registerAt a) n
-  obeyed-left (Packet.LongWrite r n) = either Left (eqb n 0) (λ _. plain _ _ tt) (λ _. begin-left r n)
+  obeyed-left PacketHeader.Idle = plain _ _ tt
+  obeyed-left PacketHeader.Bad = stop-left _
+  obeyed-left PacketHeader.Read = stop-left _
+  obeyed-left (PacketHeader.Write a n) = one-left (registerAt a) n
+  obeyed-left (PacketHeader.LongWrite r n) = either Left (eqb n 0) (λ _. plain _ _ tt) (λ _. begin-left r n)
 
   module _ (w : ℕ) (word-small : w < 2 ^ 32) where
     crc-left : (p : Phase) → Held p PartialWord.Zero → Left (crcWord p c w)
@@ -169,7 +169,7 @@ module _ (c : Control) (empty : c .partial ≡ PartialWord.Zero) (small : AreWor
     data-left Register.Crc left filled h = crc-left _ (onward-held Register.Crc left filled h)
     data-left Register.Far left filled h = acted-left _ _ _ (onward-held Register.Far left filled h) empty (put-small Register.Far)
     data-left Register.Fdri left filled h = fdri-left left filled
-    data-left Register.Cmd left filled h = either Left (ltb LAST w) (λ _. stop-left _) (λ _. acted-left _ _ _ (onward-held Register.Cmd left filled h) empty (put-small Register.Cmd))
+    data-left Register.Cmd left filled h = either Left (ltb lastCommand w) (λ _. stop-left _) (λ _. acted-left _ _ _ (onward-held Register.Cmd left filled h) empty (put-small Register.Cmd))
     data-left Register.Ctl left filled h = record { held = onward-held Register.Ctl left filled h; empty = empty; registers = put-small Register.Ctl }
     data-left Register.Mask left filled h = record { held = onward-held Register.Mask left filled h; empty = empty; registers = put-small Register.Mask }
     data-left Register.Lout left filled h = record { held = onward-held Register.Lout left filled h; empty = empty; registers = put-small Register.Lout }
@@ -195,7 +195,7 @@ module _ (c : Control) (empty : c .partial ≡ PartialWord.Zero) (small : AreWor
 left-remembered : (f : Transition) → Left f → Remembered (f .phase) (f .control)
 left-remembered f k = record { held = rw (k .empty) (k .held); registers = k .registers }
 
-gathered-remembered : (b : PartialWord) (p : Phase) (c : Control) (x : ℕ) → x < 2 ^ 8 → AreBytes b → ((b : PartialWord) → AreBytes b → Held p b)
+gathered-remembered : (b : PartialWord) (p : Phase) (c : Control) (x : ℕ) → x < 2 ^ 8 → PartialBytes b → ((b : PartialWord) → PartialBytes b → Held p b)
     → AreWords (registerWords (c .registers)) → Remembered (gathered b p c x .phase) (gathered b p c x .control)
 unfolding gathered
 gathered-remembered PartialWord.Zero p c x h k again s = record { held = again (PartialWord.One x) h; registers = s }
@@ -204,7 +204,7 @@ gathered-remembered (PartialWord.Two a b) p c x h k again s = record { held = ag
 gathered-remembered (PartialWord.Three a b d) p c x h k again s =
     left-remembered _ (word-left (withPartial PartialWord.Zero c) refl s (wordOf a b d x) (omega arith) p (again PartialWord.Zero tt))
 
-hunted-held : (b : PartialWord) (x : ℕ) → x < 2 ^ 8 → AreBytes b → Held (hunted b x) PartialWord.Zero
+hunted-held : (b : PartialWord) (x : ℕ) → x < 2 ^ 8 → PartialBytes b → Held (hunted b x) PartialWord.Zero
 unfolding hunted
 hunted-held PartialWord.Zero x h k = (h, refl)
 hunted-held (PartialWord.One a) x h k = ((k, h), refl)
@@ -227,7 +227,7 @@ asked-small p c w (Event.Keep at v) h a = rw (a .2) h
 asked-small p c w (Event.KeepAndStore at v n) h a = rw (a .2) h
 asked-small p c w (Event.Store n) h a = tt
 
-gathered-keeps : (b : PartialWord) (p : Phase) (c : Control) (x : ℕ) → x < 2 ^ 8 → AreBytes b → KeepsWord (gathered b p c x .event)
+gathered-keeps : (b : PartialWord) (p : Phase) (c : Control) (x : ℕ) → x < 2 ^ 8 → PartialBytes b → KeepsWord (gathered b p c x .event)
 unfolding gathered
 gathered-keeps PartialWord.Zero p c x h k = tt
 gathered-keeps (PartialWord.One a) p c x h k = tt
@@ -260,7 +260,7 @@ held-partial (Phase.Data r left filled) b h = refl
 held-partial Phase.Crc b h = refl
 held-partial (Phase.Stopped s) b h = refl
 
-held-bytes : (p : Phase) (b : PartialWord) → Held p b → AreBytes b
+held-bytes : (p : Phase) (b : PartialWord) → Held p b → PartialBytes b
 held-bytes (Phase.Hunting w) b h = rw (h .1) tt
 held-bytes (Phase.Header o) b h = h
 held-bytes (Phase.Data r left filled) b h = h .0
@@ -318,7 +318,7 @@ remembered-lossless d t k words full =
     }
 
 -- and what its image keeps is remembered
-kept-held : (p : Phase) (b : PartialWord) → PhaseInRange p → AreBytes b → keptPhase p ≡ p → keptPartial p b ≡ b → Held p b
+kept-held : (p : Phase) (b : PartialWord) → PhaseInRange p → PartialBytes b → keptPhase p ≡ p → keptPartial p b ≡ b → Held p b
 kept-held (Phase.Hunting w) b h s e f = (h, sym f)
 kept-held (Phase.Header o) b h s e f = s
 kept-held (Phase.Data r left filled) b h s e f = (s, cc)

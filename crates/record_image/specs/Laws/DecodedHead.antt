@@ -24,9 +24,9 @@ use Rattle.config.specs.declared.Current.the-variants as Current
 use Rattle.config.specs.declared.Flags.{Flags}
 use Rattle.config.specs.declared.Phase.{Phase}
 use Rattle.config.specs.declared.Phase.the-variants as Phase
-use Rattle.record_image.specs.Image.{phaseNumber, openNumber, subject, wordsLeft, wordsFilled, pending, bytesCount, bytesNumber, currentNumber, bit, flagBits}
+use Rattle.record_image.specs.Image.{phaseNumber, openNumber, argument, wordsLeft, wordsFilled, pending, bytesCount, bytesNumber, currentNumber, flagBit, flagBits}
 use Rattle.record_image.specs.Decode.{openAfter, openOf, registerFound, registerOf, stopOf, pendingOf, phaseOf, partialOf, currentOf, flagsOf}
-use Rattle.record_image.specs.Laws.KeptRecord.{AreBytes, PhaseInRange, keptPhase, keptPartial, keptCurrent}
+use Rattle.record_image.specs.Laws.KeptRecord.{PartialBytes, PhaseInRange, keptPhase, keptPartial, keptCurrent}
 
 -- ---- word 2
 
@@ -56,7 +56,7 @@ stop-of Stop.UnknownCommand = refl
 
 -- ---- words 5 and 6
 
-pending-of : (b : PartialWord) → AreBytes b → pendingOf (bytesCount b) (bytesNumber b) ≡ b
+pending-of : (b : PartialWord) → PartialBytes b → pendingOf (bytesCount b) (bytesNumber b) ≡ b
 unfolding pendingOf
 pending-of PartialWord.Zero h = refl
 pending-of (PartialWord.One a) h = let e : a % 2 ^ 8 ≡ a = omega arith in rw e
@@ -76,7 +76,7 @@ module _ (p : Phase) (b : PartialWord) where
   abbrev bytes : PartialWord
   bytes = pendingOf (bytesCount (pending p b)) (bytesNumber (pending p b))
 
-pub phase-of : (p : Phase) (b : PartialWord) → PhaseInRange p → phaseOf (phaseNumber p) (subject p) (wordsLeft p) (wordsFilled p) (bytes p b) ≡ keptPhase p
+pub phase-of : (p : Phase) (b : PartialWord) → PhaseInRange p → phaseOf (phaseNumber p) (argument p) (wordsLeft p) (wordsFilled p) (bytes p b) ≡ keptPhase p
 unfolding phaseOf wordsFilled
 phase-of (Phase.Hunting w) b h = ap Phase.Hunting (pending-of w h)
 phase-of (Phase.Header o) b h = ap Phase.Header (open-of o)
@@ -84,7 +84,7 @@ phase-of (Phase.Data r left filled) b h = rw (register-of r)
 phase-of Phase.Crc b h = refl
 phase-of (Phase.Stopped s) b h = ap Phase.Stopped (stop-of s)
 
-pub partial-of : (p : Phase) (b : PartialWord) → AreBytes b → partialOf (phaseNumber p) (bytes p b) ≡ keptPartial p b
+pub partial-of : (p : Phase) (b : PartialWord) → PartialBytes b → partialOf (phaseNumber p) (bytes p b) ≡ keptPartial p b
 unfolding partialOf
 partial-of (Phase.Hunting w) b h = refl
 partial-of (Phase.Header o) b h = pending-of b h
@@ -100,33 +100,33 @@ current-of (Current.Frame n) = refl
 current-of Current.NoFrame = refl
 
 -- a flag at its place is so many times the flag
-bit-weight : (on : Bool) (w : ℕ) → bit on w ≡ bit on 1 * w
+bit-weight : (on : Bool) (w : ℕ) → flagBit on w ≡ flagBit on 1 * w
 bit-weight true w = omega arith
 bit-weight false w = omega arith
 
-bit-small : (on : Bool) → bit on 1 ≤ 1
+bit-small : (on : Bool) → flagBit on 1 ≤ 1
 bit-small true = omega arith
 bit-small false = omega arith
 
-bit-is : (on : Bool) → eqb (bit on 1) 1 ≡ on
+bit-is : (on : Bool) → eqb (flagBit on 1) 1 ≡ on
 bit-is true = refl
 bit-is false = refl
 
 -- the number with these bits, the first lowest
 unfoldable number : List Bool → ℕ
 number [] = 0
-number (x ∷ xs) = bit x 1 + 2 * number xs
+number (x ∷ xs) = flagBit x 1 + 2 * number xs
 
 number-bit : (xs : List Bool) (k : ℕ) → k < length xs → eqb (number xs / 2 ^ k % 2) 1 ≡ getD xs k false
 unfolding number
 number-bit [] k h = absurd (omega arith)
 number-bit (x ∷ xs) zero h =
-    let e : (bit x 1 + 2 * number xs) / 2 ^ 0 % 2 ≡ bit x 1 = omega (arith, bit-small x) in
+    let e : (flagBit x 1 + 2 * number xs) / 2 ^ 0 % 2 ≡ flagBit x 1 = omega (arith, bit-small x) in
     rw e (bit-is x)
 number-bit (x ∷ xs) (suc k) h =
-    let e : (bit x 1 + 2 * number xs) / 2 ≡ number xs = omega (arith, bit-small x) in
+    let e : (flagBit x 1 + 2 * number xs) / 2 ≡ number xs = omega (arith, bit-small x) in
     let g : 1 + k ≡ suc k = omega arith in
-    rw (← g, ← shr-shr (bit x 1 + 2 * number xs) 1 k, e) (number-bit xs k (omega arith))
+    rw (← g, ← shr-shr (flagBit x 1 + 2 * number xs) 1 k, e) (number-bit xs k (omega arith))
 
 module _ (f : Flags) where
   bits : List Bool

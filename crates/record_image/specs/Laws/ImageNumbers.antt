@@ -18,9 +18,9 @@ use Rattle.config.specs.declared.Flags.{Flags}
 use Rattle.config.specs.declared.Phase.{Phase}
 use Rattle.config.specs.declared.Phase.the-variants as Phase
 use Rattle.record.specs.declared.Record.{Record}
-use Rattle.record_image.specs.Image.{phaseNumber, subject, wordsLeft, wordsFilled, pending, bytesCount, bytesNumber, currentNumber, bit, flagBits, headWords}
+use Rattle.record_image.specs.Image.{phaseNumber, argument, wordsLeft, wordsFilled, pending, bytesCount, bytesNumber, currentNumber, flagBit, flagBits, headWords}
 use Rattle.parts.specs.Laws.WordBytes.{AreWords}
-use Rattle.record_image.specs.Laws.KeptRecord.{AreBytes, PhaseInRange, CurrentInRange, InRange}
+use Rattle.record_image.specs.Laws.KeptRecord.{PartialBytes, PhaseInRange, CurrentInRange, InRange}
 
 -- 01: "stop number ... 1 to 10"
 stop-bound : (s : Stop) → stopNumber s ≤ 10
@@ -44,13 +44,13 @@ phase-bound (Phase.Data r left filled) = omega arith
 phase-bound Phase.Crc = omega arith
 phase-bound (Phase.Stopped s) = omega arith
 
-subject-bound : (p : Phase) → subject p ≤ 15
-subject-bound (Phase.Hunting b) = omega arith
-subject-bound (Phase.Header Open.Closed) = omega arith
-subject-bound (Phase.Header (Open.After r)) = omega (arith, address-bound r)
-subject-bound (Phase.Data r left filled) = omega (arith, address-bound r)
-subject-bound Phase.Crc = omega arith
-subject-bound (Phase.Stopped s) = omega (arith, stop-bound s)
+argument-bound : (p : Phase) → argument p ≤ 15
+argument-bound (Phase.Hunting b) = omega arith
+argument-bound (Phase.Header Open.Closed) = omega arith
+argument-bound (Phase.Header (Open.After r)) = omega (arith, address-bound r)
+argument-bound (Phase.Data r left filled) = omega (arith, address-bound r)
+argument-bound Phase.Crc = omega arith
+argument-bound (Phase.Stopped s) = omega (arith, stop-bound s)
 
 left-bound : (p : Phase) → PhaseInRange p → wordsLeft p < 2 ^ 32
 left-bound (Phase.Hunting b) h = omega arith
@@ -72,7 +72,7 @@ filled-bound Phase.Crc h = omega arith
 filled-bound (Phase.Stopped s) h = omega arith
 
 -- words 5 and 6
-pending-bytes : (p : Phase) (b : PartialWord) → PhaseInRange p → AreBytes b → AreBytes (pending p b)
+pending-bytes : (p : Phase) (b : PartialWord) → PhaseInRange p → PartialBytes b → PartialBytes (pending p b)
 pending-bytes (Phase.Hunting w) b h g = h
 pending-bytes (Phase.Header o) b h g = g
 pending-bytes (Phase.Data r left filled) b h g = g
@@ -85,7 +85,7 @@ count-bound (PartialWord.One a) = omega arith
 count-bound (PartialWord.Two a b) = omega arith
 count-bound (PartialWord.Three a b c) = omega arith
 
-number-bound : (b : PartialWord) → AreBytes b → bytesNumber b < 2 ^ 24
+number-bound : (b : PartialWord) → PartialBytes b → bytesNumber b < 2 ^ 24
 number-bound PartialWord.Zero h = omega arith
 number-bound (PartialWord.One a) h = omega arith
 number-bound (PartialWord.Two a b) h = omega arith
@@ -96,7 +96,7 @@ current-bound : (c : Current) → CurrentInRange c → currentNumber c < 2 ^ 32
 current-bound (Current.Frame n) h = h
 current-bound Current.NoFrame h = omega arith
 
-bit-bound : (on : Bool) (w : ℕ) → bit on w ≤ w
+bit-bound : (on : Bool) (w : ℕ) → flagBit on w ≤ w
 bit-bound true w = omega arith
 bit-bound false w = omega arith
 
@@ -123,7 +123,7 @@ head-words d r =
       (
         omega (arith, phase-bound (d .phase)),
         (
-          omega (arith, subject-bound (d .phase)),
+          omega (arith, argument-bound (d .phase)),
           (
             left-bound (d .phase) (r .phase),
             (

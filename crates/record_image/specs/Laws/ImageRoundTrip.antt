@@ -1,5 +1,5 @@
 -- Encoding and decoding are inverse to each other, as far as an image keeps a record.
--- Source: docs/C-INTERFACE.md: "Encoding the record decoded from an accepted image gives the image."
+-- Word by word: each number of the head reads back, and the frame's words from their bytes.
 use mathlib.Core.Path.{_≡_, _∙_, refl, sym, ap}
 use mathlib.Core.Bool.{Bool, true, false, cond, and-eq-true-iff}
 use mathlib.Core.List.{List, [], _∷_}

@@ -1,5 +1,5 @@
 -- Records whose numbers have the sizes that the code's types give them, and what an image keeps of a record.
--- Source: docs/C-INTERFACE.md, "The record's image, edition 1", words 4 to 7.
+-- Definitions alone, for the laws beside it: docs/C-INTERFACE.md, "The record's image, edition 1", words 4 to 7.
 use Prim.Native.Nat.{_^_, _<_}
 use mathlib.Core.Path.{_≡_}
 use mathlib.Core.Bool.{cond}
@@ -20,14 +20,14 @@ use Rattle.record_image.specs.Image.{registerWords}
 -- ---- sizes
 
 -- bytes of 8 bits
-abbrev pub AreBytes : PartialWord → Type 0
-AreBytes PartialWord.Zero = Unit {0}
-AreBytes (PartialWord.One a) = a < 2 ^ 8
-AreBytes (PartialWord.Two a b) = (a < 2 ^ 8) × (b < 2 ^ 8)
-AreBytes (PartialWord.Three a b c) = (a < 2 ^ 8) × (b < 2 ^ 8) × (c < 2 ^ 8)
+abbrev pub PartialBytes : PartialWord → Type 0
+PartialBytes PartialWord.Zero = Unit {0}
+PartialBytes (PartialWord.One a) = a < 2 ^ 8
+PartialBytes (PartialWord.Two a b) = (a < 2 ^ 8) × (b < 2 ^ 8)
+PartialBytes (PartialWord.Three a b c) = (a < 2 ^ 8) × (b < 2 ^ 8) × (c < 2 ^ 8)
 
 abbrev pub PhaseInRange : Phase → Type 0
-PhaseInRange (Phase.Hunting b) = AreBytes b
+PhaseInRange (Phase.Hunting b) = PartialBytes b
 PhaseInRange (Phase.Header o) = Unit {0}
 PhaseInRange (Phase.Data r left filled) = (left < 2 ^ 32) × (filled < 2 ^ 32)
 PhaseInRange Phase.Crc = Unit {0}
@@ -42,7 +42,7 @@ pub record InRange (d : Record) : Type 0 where
   pub device : d .control .device < 2 ^ 32
   pub registers : AreWords (registerWords (d .control .registers))
   pub current : CurrentInRange (d .control .current)
-  pub partial : AreBytes (d .control .partial)
+  pub partial : PartialBytes (d .control .partial)
   pub frame : AreWords (d .frame)
   pub length : length· (d .frame) ≡ 213
 

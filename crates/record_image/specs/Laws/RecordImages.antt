@@ -1,10 +1,11 @@
 -- Which bytes are taken for a record: exactly the images of consistent records.
--- Source: docs/C-INTERFACE.md: "An image that is the image of no consistent record is refused with 22".
+-- By the round trip: what an image loses of a record has no part in its consistency.
 use mathlib.Core.Path.{_≡_, refl, ap}
 use mathlib.Core.Bool.{Bool, true, false, cond, _&&_, and-eq-true-iff, false≢true}
 use mathlib.Core.List.{List}
 use Prim.Native.Nat.{ℕ, _+_, _%_}
 use lib.Dec.{eqb, leb, ltb}
+use Rattle.registers.specs.CommandCodes.{lastCommand}
 use Rattle.registers.specs.RegisterAddresses.{isFdri, isMfwr}
 use Rattle.parts.specs.Table.{lengthAt}
 use Rattle.record.specs.Consistency.{currentFits, dataFits, phaseFits, consistent}
@@ -57,18 +58,18 @@ kept-consistent d h =
     let c = d .control in
     rw (phase-fits (d .phase) c)
     (second-true (leb (c .device) 7) (currentFits (c .device) (c .current)) (currentFits (c .device) (keptCurrent (c .current))) (ltb (c .registers .crc) 65536)
-    (leb (c .registers .cmd) 13) (phaseFits (d .phase) c) (current-fits (c .device) (c .current)) h)
+    (leb (c .registers .cmd) lastCommand) (phaseFits (d .phase) c) (current-fits (c .device) (c .current)) h)
 
 -- what is asked of bytes before they are taken for a record: that they are accepted, and that their record is consistent
-abbrev pub taken : List ℕ → Bool
-taken bytes = acceptedImage bytes && consistent (decoded bytes .phase) (decoded bytes .control)
+abbrev pub takenImage : List ℕ → Bool
+takenImage bytes = acceptedImage bytes && consistent (decoded bytes .phase) (decoded bytes .control)
 
 -- bytes that are taken are the image of a consistent record
-pub taken-image : (bytes : List ℕ) → taken bytes ≡ true → (image (decoded bytes) ≡ bytes) × (consistent (decoded bytes .phase) (decoded bytes .control) ≡ true)
+pub taken-image : (bytes : List ℕ) → takenImage bytes ≡ true → (image (decoded bytes) ≡ bytes) × (consistent (decoded bytes .phase) (decoded bytes .control) ≡ true)
 taken-image bytes h =
     let both = and-eq-true-iff (acceptedImage bytes) (consistent (decoded bytes .phase) (decoded bytes .control)) .0 h in
     (accepted-image bytes (both .0), both .1)
 
 -- and the image of every consistent record in range is taken
-pub image-taken : (d : Record) → InRange d → consistent (d .phase) (d .control) ≡ true → taken (image d) ≡ true
+pub image-taken : (d : Record) → InRange d → consistent (d .phase) (d .control) ≡ true → takenImage (image d) ≡ true
 image-taken d r h = rw (image-accepted d r, decode-image d r) (kept-consistent d h)

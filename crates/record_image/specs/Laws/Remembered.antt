@@ -1,5 +1,5 @@
 -- What a state remembers from one byte to the next, beside what consistency says of it, and the word that an event keeps.
--- Source: docs/C-INTERFACE.md, "The record's image, edition 1", words 2 to 23.
+-- Definitions alone, for the laws beside it: docs/C-INTERFACE.md, "The record's image, edition 1", words 2 to 23.
 use mathlib.Core.Path.{_≡_}
 use mathlib.Core.Bool.{cond}
 use Prim.Native.Nat.{_^_, _<_}
@@ -13,15 +13,15 @@ use Rattle.config.specs.declared.Phase.the-variants as Phase
 use Rattle.config.specs.declared.Event.{Event}
 use Rattle.config.specs.declared.Event.the-variants as Event
 use Rattle.record_image.specs.Image.{registerWords}
-use Rattle.record_image.specs.Laws.KeptRecord.{AreBytes}
+use Rattle.record_image.specs.Laws.KeptRecord.{PartialBytes}
 
 -- no partial word while hunting, and words filled in FDRI's data alone
 abbrev pub Held : Phase → PartialWord → Type 0
-Held (Phase.Hunting w) b = AreBytes w × (b ≡ PartialWord.Zero)
-Held (Phase.Header o) b = AreBytes b
-Held (Phase.Data r left filled) b = AreBytes b × (cond (isFdri r) filled 0 ≡ filled)
-Held Phase.Crc b = AreBytes b
-Held (Phase.Stopped s) b = AreBytes b
+Held (Phase.Hunting w) b = PartialBytes w × (b ≡ PartialWord.Zero)
+Held (Phase.Header o) b = PartialBytes b
+Held (Phase.Data r left filled) b = PartialBytes b × (cond (isFdri r) filled 0 ≡ filled)
+Held Phase.Crc b = PartialBytes b
+Held (Phase.Stopped s) b = PartialBytes b
 
 pub record Remembered (p : Phase) (c : Control) : Type 0 where
   pub held : Held p (c .partial)

@@ -9,7 +9,7 @@ use lib.ListN.{length, take, drop, length-drop}
 use lib.Seq.{length-take-le, drop-drop}
 use Rattle.parts.specs.FrameMemory.{placed}
 use Rattle.layout.specs.Step.{frames}
-use Rattle.layout.specs.ReferenceMachine.{written, spread}
+use Rattle.layout.specs.ReferenceMachine.{framesWritten, spread}
 
 -- k frames of 4·l bytes from an offset on, of which one or more are left, have room for one
 pub room : (l from k n : ℕ) → 0 < k → from + 4 * l * k ≤ n → from + 4 * l + 4 * l * (k - 1) ≤ n
@@ -24,14 +24,14 @@ frame-size l from b h = length-take-le (4 * l) (drop from b) (rw length-drop (om
 
 -- the first of the frames that are left is placed
 pub write-one : (l n k from : ℕ) (b m : List ℕ) → 0 < k
-    → written l (n + 1) (frames l (k - 1) (drop (from + 4 * l) b)) (placed l n (take (4 * l) (drop from b)) m) ≡ written l n (frames l k (drop from b)) m
-unfolding written frames
+    → framesWritten l (n + 1) (frames l (k - 1) (drop (from + 4 * l) b)) (placed l n (take (4 * l) (drop from b)) m) ≡ framesWritten l n (frames l k (drop from b)) m
+unfolding framesWritten frames
 write-one l n k from b m h =
     let e : suc (k - 1) ≡ k = omega arith in
-    rw (← drop-drop (4 * l) from b) (ap (λ (j : ℕ). written l n (frames l j (drop from b)) m) e)
+    rw (← drop-drop (4 * l) from b) (ap (λ (j : ℕ). framesWritten l n (frames l j (drop from b)) m) e)
 
-pub write-none : (l n k : ℕ) (xs m : List ℕ) → k ≡ 0 → written l n (frames l k xs) m ≡ m
-unfolding written frames
+pub write-none : (l n k : ℕ) (xs m : List ℕ) → k ≡ 0 → framesWritten l n (frames l k xs) m ≡ m
+unfolding framesWritten frames
 write-none l n k xs m e = rw e
 
 -- the first of the targets that are left is written

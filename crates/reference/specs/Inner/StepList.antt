@@ -8,7 +8,7 @@ use native.Mathlib.Omega.{arith}
 use native.Mathlib.Nat.{mul-le-mul-left}
 use Rattle.layout.specs.Step.{Step, Reading, listed}
 use Rattle.layout.specs.StepReading.{stepAt, stepsAt, stepOffset}
-use Rattle.layout.specs.ReferenceMachine.{done, allDone, madeOf}
+use Rattle.layout.specs.ReferenceMachine.{stepApplied, stepsApplied, madeOf}
 use Rattle.layout.specs.Laws.StepViews.{write-view, multi-view}
 use Rattle.layout.specs.Inner.TargetNumbers.{numbersAt, Roomy, targets-numbers}
 use Rattle.layout.specs.Laws.AcceptedLayout.{isRead}
@@ -22,29 +22,29 @@ StepRoom l b n (StepAt.FrameWrite first k body next) = 4 * l * (first + k) ≤ n
 StepRoom l b n (StepAt.MultiFrameWrite k body targets next) = Roomy l n (numbersAt b k targets)
 StepRoom l b n (StepAt.Refused c at) = Unit {0}
 
-done-append : (l : ℕ) (xs ys : List Step) (m : List ℕ) → allDone l (xs ++ ys) m ≡ allDone l ys (allDone l xs m)
-unfolding allDone
+done-append : (l : ℕ) (xs ys : List Step) (m : List ℕ) → stepsApplied l (xs ++ ys) m ≡ stepsApplied l ys (stepsApplied l xs m)
+unfolding stepsApplied
 done-append l [] ys m = refl
-done-append l (x ∷ xs) ys m = done-append l xs ys (done l x m)
+done-append l (x ∷ xs) ys m = done-append l xs ys (stepApplied l x m)
 
-made-listed : (l : ℕ) (r : Reading (List Step)) (m : List ℕ) → madeOf l r m ≡ allDone l (listed r) m
-unfolding madeOf allDone listed
+made-listed : (l : ℕ) (r : Reading (List Step)) (m : List ℕ) → madeOf l r m ≡ stepsApplied l (listed r) m
+unfolding madeOf stepsApplied listed
 made-listed l (Reading.Read ss next) m = refl
 made-listed l (Reading.Refused c at) m = refl
 
 module _ (l f : ℕ) (own : ℕ → Bool) (b : List ℕ) where
   pub none-done : (n at : ℕ) (m : List ℕ) → n ≡ 0 → madeOf l (stepsAt l f own b n at) m ≡ m
-  unfolding allDone
+  unfolding stepsApplied
   none-done n at m e = rw (made-listed l (stepsAt l f own b n at) m, steps-none l f own b n at e)
 
   pub step-made : (n at : ℕ) (s : StepAt) (m : List ℕ) → stepAt l f own b at ≡ s → 0 < n → isRead (stepsAt l f own b n at) ≡ true
       → (isRead (stepsAt l f own b (n - 1) (stepOffset s)) ≡ true)
-      × (madeOf l (stepsAt l f own b (n - 1) (stepOffset s)) (allDone l (stepOf l b s) m) ≡ madeOf l (stepsAt l f own b n at) m)
+      × (madeOf l (stepsAt l f own b (n - 1) (stepOffset s)) (stepsApplied l (stepOf l b s) m) ≡ madeOf l (stepsAt l f own b n at) m)
   step-made n at s m e h t =
       let split = steps-first l f own b n at s e h t in
       let rest = stepsAt l f own b (n - 1) (stepOffset s) in (
         split .0,
-        rw (made-listed l (stepsAt l f own b n at) m, made-listed l rest (allDone l (stepOf l b s) m), split .1, done-append l (stepOf l b s) (listed rest) m),
+        rw (made-listed l (stepsAt l f own b n at) m, made-listed l rest (stepsApplied l (stepOf l b s) m), split .1, done-append l (stepOf l b s) (listed rest) m),
       )
 
   -- a step that was read finds its frames in a memory of f frames

@@ -22,7 +22,7 @@ abbrev pub laterResult : ℕ → Result → Result
 laterResult n r = record { code = r .code; image = r .image; memory = r .memory; taken = n + r .taken }
 
 -- 01: "A load by pieces, cut at any byte, ends as the joined load": the number, the record's image, the memory and the bytes
--- taken in all, whatever the image, the memory and the second piece are
+-- taken in all, whatever the image, the memory and the second piece are; the first piece is of bytes, as a `&[u8]` is
 pub loaded-pieces : (i m a b : List ℕ) → AreBytes a
     → loadedImage i m (a ++ b) ≡ laterResult (loadedImage i m a .taken) (loadedImage (loadedImage i m a .image) (loadedImage i m a .memory) b)
 loaded-pieces i m a b bytes = go (acceptedImage i) refl

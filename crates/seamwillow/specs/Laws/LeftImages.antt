@@ -25,6 +25,7 @@ use Rattle.loader.specs.EventEffects.{buffered}
 use Rattle.loader.specs.Run.{byteTransition, run}
 use Rattle.loader.specs.Load.{finished, load}
 use Rattle.loader.specs.Laws.UntouchedFrames.{buffered-length}
+use Rattle.loader.specs.Laws.LoadKeeps.{load-consistent}
 use Rattle.loader.specs.Laws.Pieces.{next, run-induction, Loadable, load-accepted, load-inconsistent, load-cases}
 use Rattle.layout.specs.Step.{Step, Reading}
 use Rattle.layout.specs.declared.FrameRange.{FrameRange}
@@ -90,6 +91,11 @@ module _ (i m s : List ℕ) (bytes : AreBytes s) (a : acceptedImage i ≡ true) 
   -- and decodes to the record that it left
   pub loaded-decoded : decoded (loadedImage i m s .image) ≡ load (decoded i) m s .«record»
   loaded-decoded = rw (loaded-done i m s a) (written-decoded (load (decoded i) m s .«record») i (accepted-length i a) left)
+
+  -- and where its record was consistent, so is the record that the next call decodes: it is not refused with 22
+  pub loaded-consistent : consistent (decoded i .phase) (decoded i .control) ≡ true
+      → consistent (decoded (loadedImage i m s .image) .phase) (decoded (loadedImage i m s .image) .control) ≡ true
+  loaded-consistent h = rw loaded-decoded (load-consistent (decoded i) m s h)
 
 -- ---- after power-on
 

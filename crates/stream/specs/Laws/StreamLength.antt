@@ -10,7 +10,7 @@ use lib.ListN.{length, drop, length-append, length-replicate}
 use Rattle.parts.specs.Table.{lengthAt}
 use Rattle.parts.specs.Laws.WordBytes.{bytes-length}
 use Rattle.layout.specs.Step.{Step, FrameWrite, MultiFrameWrite}
-use Rattle.layout.specs.Layout.{stepWords, stepsWords, streamWords}
+use Rattle.layout.specs.Layout.{stepWordCount, stepsWordCount, streamWordCount}
 use Rattle.layout.specs.Laws.AcceptedSteps.{Fits, AllFit}
 use Rattle.stream.specs.StreamPackets.{Packet, crcOf, packetWords, packetsWords}
 use Rattle.stream.specs.Stream.{wordsFrom, framesWords, further, spreadPackets, stepPackets, stepsPackets, ending, streamPackets, wordsOf, stream}
@@ -74,8 +74,8 @@ abbrev Aimed : Step → Type 0
 Aimed (FrameWrite n fs) = Unit {0}
 Aimed (MultiFrameWrite x ts) = 0 < length ts
 
-pub step-size : (d : ℕ) (s : Step) → Aimed s → sizes (stepPackets d s) ≡ stepWords (lengthAt d) s
-unfolding stepPackets stepWords sizes size
+pub step-size : (d : ℕ) (s : Step) → Aimed s → sizes (stepPackets d s) ≡ stepWordCount (lengthAt d) s
+unfolding stepPackets stepWordCount sizes size
 step-size d (FrameWrite n fs) h = simp (length-append, length-replicate) (omega (arith, frames-words (lengthAt d) fs, suc-mul (length fs) (lengthAt d)))
 step-size d (MultiFrameWrite x ts) h = omega (arith, words-length (lengthAt d) x, spread-size d ts h)
 
@@ -86,16 +86,16 @@ module _ (d f : ℕ) (own : ℕ → Bool) where
   fits-aimed (FrameWrite n fs) fit = tt
   fits-aimed (MultiFrameWrite x ts) fit = fit .positive
 
-  steps-size : (ss : List Step) → AllFit (lengthAt d) f own ss → sizes (stepsPackets d ss) ≡ stepsWords (lengthAt d) ss
-  unfolding stepsPackets stepsWords sizes
+  steps-size : (ss : List Step) → AllFit (lengthAt d) f own ss → sizes (stepsPackets d ss) ≡ stepsWordCount (lengthAt d) ss
+  unfolding stepsPackets stepsWordCount sizes
   steps-size [] fit = refl
   steps-size (s ∷ ss) fit = sizes-append (stepPackets d s) (stepsPackets d ss) ∙ omega (arith, step-size d s (fits-aimed s (fit .0)), steps-size ss (fit .1))
 
   -- 01: "Words: 12, plus 7 + (k+1)·L for kind 1, 7 + L + 5k for kind 2"
-  pub words-count : (ss : List Step) → AllFit (lengthAt d) f own ss → length (wordsOf d ss) ≡ streamWords (lengthAt d) ss
+  pub words-count : (ss : List Step) → AllFit (lengthAt d) f own ss → length (wordsOf d ss) ≡ streamWordCount (lengthAt d) ss
   unfolding wordsOf sizes size
   words-count ss fit = omega (arith, packets-size 0 (streamPackets d ss), sizes-append (stepsPackets d ss) ending, steps-size ss fit)
 
   -- and so the bytes that a check tells
-  pub stream-length : (ss : List Step) → AllFit (lengthAt d) f own ss → length (stream d ss) ≡ 4 * streamWords (lengthAt d) ss
+  pub stream-length : (ss : List Step) → AllFit (lengthAt d) f own ss → length (stream d ss) ≡ 4 * streamWordCount (lengthAt d) ss
   stream-length ss fit = bytes-length (wordsOf d ss) ∙ ap (λ (n : ℕ). 4 * n) (words-count ss fit)

@@ -9,7 +9,7 @@ use seamwillow_tests::generate::{guided, layouts};
 use seamwillow_tests::harness::compiler_sides::INDEPENDENT;
 use seamwillow_tests::harness::counts::Counts;
 use seamwillow_tests::independent::layout::Desk;
-use seamwillow_tests::independent::loader::{Device, Phase};
+use seamwillow_tests::independent::loader::{Phase, Record};
 use seamwillow_tests::independent::names::{command, register};
 use seamwillow_tests::independent::reference::{self, LOOKUPS, PARTS};
 use seamwillow_tests::independent::stream::{write_header, Stream};
@@ -43,10 +43,10 @@ fn followed(random: &mut Random, desk: Desk, memory: &mut [u8]) -> Vec<u8> {
     if random.one_in(32) {
         let other = random.below(3);
         let mut memory = vec![0; PARTS[other as usize].memory_bytes()];
-        let (_, fresh) = Device::power_on(other, &mut memory);
+        let (_, fresh) = Record::power_on(other, &mut memory);
         return guided::stream(random, &LOOKUPS, fresh, &mut memory);
     }
-    let (_, fresh) = Device::power_on(desk.device, memory);
+    let (_, fresh) = Record::power_on(desk.device, memory);
     // At times no stream at all.
     if random.one_in(100) {
         let length = random.place(1000);
@@ -75,7 +75,7 @@ fn settled() -> Vec<u8> {
 
 /// Leads a part out of its packets to where it waits for sync, mostly by a check; from a packet of
 /// very many words it does not.
-fn end(random: &mut Random, mut part: Device, memory: &mut [u8], stream: &mut Vec<u8>) {
+fn end(random: &mut Random, mut part: Record, memory: &mut [u8], stream: &mut Vec<u8>) {
     part.load(memory, stream.iter().copied());
     let mut is_checked = random.one_in(4);
     for _ in 0..MOST_TO_END {

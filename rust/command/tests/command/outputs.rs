@@ -7,7 +7,7 @@ use seamwillow_tests::generate::{guided, layouts};
 use seamwillow_tests::harness::compiler_sides::INDEPENDENT;
 use seamwillow_tests::harness::counts::Counts;
 use seamwillow_tests::independent::layout::{self, answer, Desk};
-use seamwillow_tests::independent::loader::{Device, Phase};
+use seamwillow_tests::independent::loader::{Phase, Record};
 use seamwillow_tests::independent::reference::PARTS;
 use std::fs;
 
@@ -108,7 +108,7 @@ enum End {
 }
 
 /// Loads a stream on the independent loader.
-fn taken(part: &mut Device, memory: &mut [u8], stream: &[u8]) -> End {
+fn taken(part: &mut Record, memory: &mut [u8], stream: &[u8]) -> End {
     let mut is_awake = part.phase != Phase::Hunting;
     for &byte in stream {
         part.load(memory, [byte]);
@@ -130,7 +130,7 @@ fn compare_load(scratch: &Scratch, random: &mut Random, case: &str) -> i32 {
     };
     let part = &PARTS[device as usize];
     let mut memory = vec![0; part.memory_bytes()];
-    let (_, mut record) = Device::power_on(device, &mut memory);
+    let (_, mut record) = Record::power_on(device, &mut memory);
     let mut line = format!("load --part {} -o made.img", part.name);
     if random.one_in(2) {
         memory = random.bytes(memory.len());

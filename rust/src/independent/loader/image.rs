@@ -1,6 +1,6 @@
 //! The record as an image of 237 words, and the loader over images as the C interface has it.
 
-use super::{packet, Device, Flags, Phase, BAD_RECORD, REGISTERS};
+use super::{packet, Flags, Phase, Record, BAD_RECORD, REGISTERS};
 use crate::independent::names::register;
 use std::array;
 
@@ -17,14 +17,14 @@ pub fn power_on(number: u32, record: &mut [u8], memory: &mut [u8]) -> u32 {
     if record.len() != RECORD_BYTES {
         return BAD_RECORD;
     }
-    let (code, device) = Device::power_on(number, memory);
+    let (code, device) = Record::power_on(number, memory);
     record.copy_from_slice(&device.encode());
     code
 }
 
 /// Loads a piece of a stream; the code and the bytes taken.
 pub fn load(record: &mut [u8], memory: &mut [u8], stream: &[u8]) -> (u32, u64) {
-    let Some(mut device) = Device::decode(record) else {
+    let Some(mut device) = Record::decode(record) else {
         return (BAD_RECORD, 0);
     };
     let answer = device.load(memory, stream.iter().copied());
@@ -63,7 +63,7 @@ impl Flags {
     }
 }
 
-impl Device {
+impl Record {
     /// The record of an image, none where it is the image of no consistent record.
     pub fn decode(image: &[u8]) -> Option<Self> {
         if image.len() != RECORD_BYTES {

@@ -51,7 +51,7 @@ pub struct Flags {
 
 /// The device record.
 #[derive(Clone, PartialEq, Eq, Debug)]
-pub struct Device {
+pub struct Record {
     pub number: u32,
     pub phase: Phase,
     /// Bytes of a partial word; while hunting, the last up to three.
@@ -62,7 +62,7 @@ pub struct Device {
     frame: [u32; BUFFER_WORDS],
 }
 
-impl Device {
+impl Record {
     fn fresh(number: u32) -> Self {
         Self {
             number,

@@ -1,7 +1,7 @@
 -- `config::figures::named` meets its contract: the frame that the address names, or none.
 -- By computation, once the answer is known, from what `frame_number` ensures of it.
 use borrow.Author.Needs.{needs}
-use Rattle.config.specs.CurrentFrame.{currentOf}
+use Rattle.config.specs.CurrentFrame.{currentFrom}
 use Rattle.config.proofs.figures.named.Statement.{statement}
 use Rattle.config.proofs.figures.named.Tie as tie
 
@@ -18,15 +18,15 @@ enum-told-2 : tie.Need-enum-told-2
 enum-told-2 c = search needs
 
 returns : tie.Need-returns
-unfolding currentOf
+unfolding currentFrom
 returns c = rw (← c .before .before .before .frame-number .ensures, c .before .answer .given .1)
 
 returns-2 : tie.Need-returns-2
-unfolding currentOf
+unfolding currentFrom
 returns-2 c = rw (← c .before .before .frame-number .ensures, c .enum-told .given .1)
 
 returns-3 : tie.Need-returns-3
-unfolding currentOf
+unfolding currentFrom
 returns-3 c = rw (← c .before .before .frame-number .ensures, c .enum-told2 .given .1)
 
 pub named-spec : {M : Type 1} → statement M

@@ -11,8 +11,8 @@ pending-requires c κs = search needs
 phase-number-requires : tie.Need-phase-number-requires
 phase-number-requires c κs = search needs
 
-subject-requires : tie.Need-subject-requires
-subject-requires c κs = search needs
+argument-requires : tie.Need-argument-requires
+argument-requires c κs = search needs
 
 words-left-requires : tie.Need-words-left-requires
 words-left-requires c κs = search needs
@@ -42,7 +42,7 @@ head-spec =
     (tie.spec
     pending-requires
     phase-number-requires
-    subject-requires
+    argument-requires
     words-left-requires
     words-filled-requires
     bytes-count-requires

@@ -1,4 +1,4 @@
--- `record_image::head::open_number` meets its contract: one more than the address that `address` gives.
+-- `record_image::head::open_number` meets its contract: one more than the address that `address_of` gives.
 -- The sum fits, since an address is at most 14.
 use Rattle.registers.specs.Laws.AddressLookup.{address-bound}
 use borrow.Author.Needs.{needs}

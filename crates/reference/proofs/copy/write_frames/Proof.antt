@@ -7,7 +7,7 @@ use lib.ListN.{length, drop}
 use denote.Ref.{now}
 use Rattle.parts.specs.Laws.FramePlacing.{frame-end}
 use Rattle.layout.specs.Step.{frames}
-use Rattle.layout.specs.ReferenceMachine.{written}
+use Rattle.layout.specs.ReferenceMachine.{framesWritten}
 use Rattle.reference.specs.Inner.MachineTurns.{room, write-one, write-none}
 use Rattle.reference.proofs.copy.write_frames.Statement.{statement}
 use Rattle.reference.proofs.copy.write_frames.Tie as tie
@@ -15,7 +15,7 @@ use Rattle.reference.proofs.copy.write_frames.Tie as tie
 abbrev Inv-loop : tie.InvT-loop
 Inv-loop l first count layout body memory₀ left₀ n₀ from₀ memory left n from =
     (n + left ≡ first + count) × (4 * l * (n + left) ≤ length memory) × (from + 4 * l * left ≤ length layout) × (length memory ≡ length memory₀)
-    × (written l n (frames l left (drop from layout)) memory ≡ written l first (frames l count (drop body layout)) memory₀)
+    × (framesWritten l n (frames l left (drop from layout)) memory ≡ framesWritten l first (frames l count (drop body layout)) memory₀)
 
 abbrev μ-loop : tie.MeasureT-loop
 μ-loop l first count layout body memory₀ left₀ n₀ from₀ memory left n from = left

@@ -6,7 +6,7 @@ use borrow.Author.Needs.{needs}
 use denote.Ref.{now}
 use Rattle.layout.specs.StepReading.{stepOffset}
 use Rattle.layout.specs.Inner.FirstStep.{stepOf, StepBytes}
-use Rattle.layout.specs.ReferenceMachine.{done, allDone}
+use Rattle.layout.specs.ReferenceMachine.{stepApplied, stepsApplied}
 use Rattle.reference.specs.Inner.StepList.{StepRoom}
 use Rattle.reference.proofs.steps.apply_step.Statement.{statement}
 use Rattle.reference.proofs.steps.apply_step.Tie as tie
@@ -39,21 +39,21 @@ spread-frame-requires c κs =
     )
 
 returns : tie.Need-returns
-unfolding stepOffset stepOf allDone
+unfolding stepOffset stepOf stepsApplied
 returns c = let e = c .before .step .given .1 in (rw e, rw e)
 
 same-length : tie.Need-same-length
 same-length c = search needs
 
 returns-2 : tie.Need-returns-2
-unfolding stepOffset stepOf done allDone
+unfolding stepOffset stepOf stepApplied stepsApplied
 returns-2 c = let e = c .before .before .before .before .before .step2 .given .1 in (rw e, rw e (c .before .before .write-frames .ensures))
 
 same-length-2 : tie.Need-same-length-2
 same-length-2 c = search needs
 
 returns-3 : tie.Need-returns-3
-unfolding stepOffset stepOf done allDone
+unfolding stepOffset stepOf stepApplied stepsApplied
 returns-3 c = let e = c .before .before .before .before .before .step3 .given .1 in (rw e, rw e (c .before .before .spread-frame .ensures))
 
 pub apply-step-spec : {M : Type 1} → statement M

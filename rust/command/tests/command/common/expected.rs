@@ -2,7 +2,7 @@
 
 use super::json::Value;
 use seamwillow_tests::independent::layout::Desk;
-use seamwillow_tests::independent::loader::{Device, Phase};
+use seamwillow_tests::independent::loader::{Phase, Record};
 use seamwillow_tests::independent::names::{command, register};
 use seamwillow_tests::independent::reference::{self, PARTS};
 use std::collections::BTreeSet;
@@ -47,7 +47,7 @@ struct Action {
 
 /// A word that was taken, with the record before it.
 struct Taken<'a> {
-    before: &'a Device,
+    before: &'a Record,
     offset: usize,
 }
 
@@ -101,7 +101,7 @@ pub struct Expected {
 impl Expected {
     /// A load on the independent loader, and a second one; the memory is of the part's length.
     pub fn of(device: u32, memory: &mut [u8], stream: &[u8]) -> Self {
-        let (code, mut part) = Device::power_on(device, memory);
+        let (code, mut part) = Record::power_on(device, memory);
         assert_eq!(code, 0, "device {device}");
         let mut expected = Self::taken(device, &mut part, memory, stream);
         // Only a stream that passes is loaded once more.
@@ -115,7 +115,7 @@ impl Expected {
     }
 
     /// A load byte by byte.
-    fn taken(device: u32, part: &mut Device, memory: &mut [u8], stream: &[u8]) -> Self {
+    fn taken(device: u32, part: &mut Record, memory: &mut [u8], stream: &[u8]) -> Self {
         let mut expected = Self {
             device,
             sync: None,
@@ -147,7 +147,7 @@ impl Expected {
         expected
     }
 
-    fn note(&mut self, word: &Taken, after: &Device) {
+    fn note(&mut self, word: &Taken, after: &Record) {
         if word.before.phase == Phase::Hunting {
             let is_sync = after.phase != Phase::Hunting;
             self.sync = self.sync.or(is_sync.then_some(word.offset));
@@ -312,7 +312,7 @@ pub fn stored_in_memories(device: u32, stream: &[u8]) -> BTreeSet<u32> {
     let part = &PARTS[device as usize];
     let [zeros, ones] = [0, 0xFF].map(|byte| {
         let mut memory = vec![0; part.memory_bytes()];
-        let (_, mut record) = Device::power_on(device, &mut memory);
+        let (_, mut record) = Record::power_on(device, &mut memory);
         memory.fill(byte);
         record.load(&mut memory, stream.iter().copied());
         memory

@@ -1,8 +1,8 @@
 -- `record_image::head::subject` meets its contract: in each phase what word 2 holds.
 -- By what the callees ensure.
 use borrow.Author.Needs.{needs}
-use Rattle.record_image.proofs.head.subject.Statement.{statement}
-use Rattle.record_image.proofs.head.subject.Tie as tie
+use Rattle.record_image.proofs.head.argument.Statement.{statement}
+use Rattle.record_image.proofs.head.argument.Tie as tie
 
 enum-told : tie.Need-enum-told
 enum-told c = search needs
@@ -43,8 +43,8 @@ returns-4 c = search needs
 returns-5 : tie.Need-returns-5
 returns-5 c = rw (c .before .before .phase3 .given .1, c .stop-number .ensures)
 
-pub subject-spec : {M : Type 1} → statement M
-subject-spec =
+pub argument-spec : {M : Type 1} → statement M
+argument-spec =
     tie.close
     (tie.spec
     enum-told
