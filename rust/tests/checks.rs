@@ -153,6 +153,33 @@ fn the_inventory_is_what_the_tree_has() {
     }
 }
 
+/// README says how many definition files there are to read, and how many crates and edits the gate passes.
+#[test]
+fn the_readme_counts_what_the_tree_has() {
+    let count = |folder: &str, kind: &str| -> usize {
+        let found = crates().into_iter().map(|name| {
+            let found = files(&path("crates").join(name).join(folder), kind);
+            found
+                .iter()
+                .filter(|file| !lists_modules(&read(file)))
+                .count()
+        });
+        found.sum()
+    };
+    let (edits, definitions) = (count("must-fail", "edit"), count("specs", "antt"));
+    let readme = read(&path("README.md")).replace('\n', " ");
+    for said in [
+        format!("`{} passed, 0 failed`", crates().len() + edits),
+        format!(
+            "{} crates proved and {edits} must-fail edits",
+            crates().len()
+        ),
+        format!("{definitions} files of definitions"),
+    ] {
+        assert!(readme.contains(&said), "README.md does not say: {said}");
+    }
+}
+
 /// What an edit changes, as its first line says it, and the folder of the files that it edits then. A contract stands
 /// in the code, or in `specs/` where it has a name there.
 const KINDS: [(&str, &[&str]); 4] = [

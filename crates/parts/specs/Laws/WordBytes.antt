@@ -4,7 +4,7 @@ use mathlib.Core.Path.{_≡_, _∙_, refl, ap}
 use mathlib.Core.List.{List, [], _∷_, _++_, append-nil}
 use Prim.Native.Nat.{ℕ, zero, suc, _+_, _*_, _/_, _%_, _^_, _≤_, _<_}
 use native.Mathlib.Omega.{arith}
-use lib.ListN.{length, getD, take, drop, set, drop-of-length-le}
+use lib.ListN.{length, getD, take, drop, set, replicate, drop-of-length-le}
 use lib.Seq.{sets, sets-eq}
 use lib.Pow.{shr-shr, shr-mod, split}
 use Rattle.parts.specs.FrameMemory.{bytesOf}
@@ -22,6 +22,10 @@ AreBytes (x ∷ xs) = (x < 2 ^ 8) × AreBytes xs
 pub words-join : (xs ys : List ℕ) → AreWords xs → AreWords ys → AreWords (xs ++ ys)
 words-join [] ys h g = g
 words-join (x ∷ xs) ys h g = (h .0, words-join xs ys (h .1) g)
+
+pub zero-words : (n : ℕ) → AreWords (replicate {A = ℕ} n 0)
+zero-words zero = tt
+zero-words (suc n) = (omega arith, zero-words n)
 
 -- a list whose every element is a byte
 pub all-bytes : (xs : List ℕ) → ((i : ℕ) → getD xs i 0 < 2 ^ 8) → AreBytes xs
@@ -44,6 +48,12 @@ bytes-drop (suc n) [] h = tt
 bytes-drop (suc n) (x ∷ xs) h = bytes-drop n xs (h .1)
 
 -- ---- bytes of words
+
+-- they are bytes, whatever the words are
+pub bytes-small : (ws : List ℕ) → AreBytes (bytesOf ws)
+unfolding bytesOf
+bytes-small [] = tt
+bytes-small (w ∷ ws) = (omega arith, (omega arith, (omega arith, (omega arith, bytes-small ws))))
 
 pub bytes-length : (ws : List ℕ) → length (bytesOf ws) ≡ 4 * length ws
 unfolding bytesOf

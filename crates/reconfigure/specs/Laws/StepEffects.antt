@@ -3,13 +3,13 @@
 use mathlib.Core.Path.{_≡_, _∙_, refl, ap, subst}
 use mathlib.Core.List.{List, [], _∷_, _++_}
 use mathlib.Core.Bool.{Bool, true}
-use Prim.Native.Nat.{ℕ, zero, suc, _+_, _*_, _^_, _≤_, _<_}
+use Prim.Native.Nat.{ℕ, _+_, _*_, _^_, _≤_, _<_}
 use native.Mathlib.Omega.{arith}
 use lib.ListN.{length, replicate, length-replicate}
 use Rattle.parts.specs.Table.{lengthAt, countAt}
 use Rattle.parts.specs.Laws.Figures.{figures}
 use Rattle.parts.specs.FrameMemory.{placed}
-use Rattle.parts.specs.Laws.WordBytes.{AreWords, AreBytes}
+use Rattle.parts.specs.Laws.WordBytes.{AreBytes, zero-words}
 use Rattle.parts.specs.Laws.FramePlacing.{frame-end, placed-length}
 use Rattle.parts.specs.FrameAddress.{frameAddress, addressTold}
 use Rattle.parts.specs.Laws.FrameNumbers.{number-address-number, address-fits, has-address}
@@ -125,10 +125,6 @@ pub record Reached (d v : ℕ) (s : View) (m ws k : List ℕ) : Type 0 where
 aims-any : (n : ℕ) (fs : List (List ℕ)) → Aims n (Current.Frame n) fs
 aims-any n [] = tt
 aims-any n (x ∷ xs) = refl
-
-zero-words : (k : ℕ) → AreWords (replicate {A = ℕ} k 0)
-zero-words zero = tt
-zero-words (suc k) = (omega arith, zero-words k)
 
 module _ (d : ℕ) (known : d ≤ 7) (own : ℕ → Bool) where
   positive : 0 < lengthAt d

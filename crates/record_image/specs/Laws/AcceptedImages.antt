@@ -2,31 +2,24 @@
 -- An image's bytes are bytes, so every number that is read from them has its size; then by the round trip.
 use mathlib.Core.Path.{_≡_, _∙_, sym, ap}
 use mathlib.Core.Bool.{true, and-eq-true-iff}
-use mathlib.Core.List.{List, [], _∷_}
+use mathlib.Core.List.{List}
 use Prim.Native.Nat.{ℕ, zero, suc, _+_, _*_, _^_, _<_}
 use native.Mathlib.Omega.{arith}
 use lib.Dec.{eqb}
 use lib.ListN.{length}
 use borrow.Author.Tests.{eq-eqb, eqb-true}
 use Rattle.parts.specs.Laws.Cases.{either}
-use Rattle.parts.specs.FrameMemory.{bytesOf}
-use Rattle.parts.specs.Laws.WordBytes.{AreWords, AreBytes, byte-at}
+use Rattle.parts.specs.Laws.WordBytes.{AreWords, AreBytes, byte-at, bytes-small}
 use Rattle.config.specs.declared.PartialWord.{PartialWord}
 use Rattle.record.specs.declared.Record.{Record}
 use Rattle.record_image.specs.Image.{imageWords, image, recordLength, encoded}
 use Rattle.record_image.specs.Compare.{isImage, acceptedImage}
 use Rattle.record_image.specs.Decode.{wordAt, wordsAt, pendingOf, phaseOf, partialOf, currentOf, registersOf, controlOf, decoded}
-use Rattle.record_image.specs.Laws.KeptRecord.{PhaseInRange, CurrentInRange, InRange, Lossless}
-use Rattle.record_image.specs.Laws.KeptRecord.{PartialBytes}
+use Rattle.record_image.specs.Laws.KeptRecord.{PartialBytes, PhaseInRange, CurrentInRange, InRange, Lossless}
 use Rattle.record_image.specs.Inner.ImageStores.{words-length}
 use Rattle.record_image.specs.Laws.ImageRoundTrip.{decode-image, accepted-image, image-accepted}
 
 -- ---- numbers that are read from bytes
-
-pub words-bytes : (ws : List ℕ) → AreBytes (bytesOf ws)
-unfolding bytesOf
-words-bytes [] = tt
-words-bytes (w ∷ ws) = (omega arith, (omega arith, (omega arith, (omega arith, words-bytes ws))))
 
 pending-small : (count number : ℕ) → PartialBytes (pendingOf count number)
 unfolding pendingOf
@@ -82,7 +75,7 @@ module _ (bytes : List ℕ) (small : AreBytes bytes) where
 
 image-bytes : (d : Record) → AreBytes (image d)
 unfolding image
-image-bytes d = words-bytes (imageWords d)
+image-bytes d = bytes-small (imageWords d)
 
 pub accepted-bytes : (bytes : List ℕ) → acceptedImage bytes ≡ true → AreBytes bytes
 accepted-bytes bytes h = rw (accepted-image bytes h) at (image-bytes (decoded bytes))

@@ -1,16 +1,12 @@
 -- The image of the record that power-on leaves loses nothing of it.
 -- By its numbers: each is zero, or the device number.
 use mathlib.Core.Path.{refl}
-use Prim.Native.Nat.{ℕ, zero, suc, _^_, _<_}
+use Prim.Native.Nat.{ℕ, _^_, _<_}
 use native.Mathlib.Omega.{arith}
-use lib.ListN.{replicate, length-replicate}
-use Rattle.parts.specs.Laws.WordBytes.{AreWords}
+use lib.ListN.{length-replicate}
+use Rattle.parts.specs.Laws.WordBytes.{zero-words}
 use Rattle.record.specs.PowerOn.{freshControl, fresh}
 use Rattle.record_image.specs.Laws.KeptRecord.{Lossless}
-
-zero-words : (n : ℕ) → AreWords (replicate {A = ℕ} n 0)
-zero-words zero = tt
-zero-words (suc n) = (omega arith, zero-words n)
 
 pub fresh-lossless : (d : ℕ) → d < 2 ^ 32 → Lossless (fresh d)
 unfolding fresh freshControl

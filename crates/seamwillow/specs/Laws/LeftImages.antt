@@ -8,7 +8,7 @@ use native.Mathlib.Omega.{arith}
 use lib.Dec.{eqb}
 use lib.ListN.{length, replicate, set, length-replicate}
 use Rattle.parts.specs.Laws.Cases.{either}
-use Rattle.parts.specs.Laws.WordBytes.{AreWords, AreBytes}
+use Rattle.parts.specs.Laws.WordBytes.{AreWords, AreBytes, bytes-small}
 use Rattle.parts.specs.Table.{figure, memoryLength, memoryAt}
 use Rattle.parts.specs.declared.table.Figure.{Figure}
 use Rattle.parts.specs.declared.table.Figure.the-variants as Figure
@@ -41,7 +41,7 @@ use Rattle.record_image.specs.Laws.ByteLossless.{byte-lossless, byte-keeps-word
 use Rattle.record_image.specs.Laws.ImageRoundTrip.{decode-image, image-accepted}
 use Rattle.record.specs.Laws.FreshRecord.{powered-so, fresh-consistent}
 use Rattle.record_image.specs.Laws.FreshImage.{fresh-lossless}
-use Rattle.record_image.specs.Laws.AcceptedImages.{words-bytes, accepted-length, accepted-lossless, encoded-image, written-accepted, written-decoded}
+use Rattle.record_image.specs.Laws.AcceptedImages.{accepted-length, accepted-lossless, encoded-image, written-accepted, written-decoded}
 use Rattle.seamwillow.specs.RecordCalls.{resultOf, poweredImage, loadedImage, reconfiguredImage}
 use Rattle.seamwillow.specs.Laws.RefusedCalls.{loaded-done, powered-done, reconfigured-done}
 
@@ -137,7 +137,7 @@ module _ (d : ℕ) (r m : List ℕ) (sized : length r ≡ recordLength) where
 
 stream-bytes : (d : ℕ) (x : Reading (List Step)) → AreBytes (streamOf d x)
 unfolding streamOf
-stream-bytes d (Reading.Read ss next) = words-bytes (wordsOf d ss)
+stream-bytes d (Reading.Read ss next) = bytes-small (wordsOf d ss)
 stream-bytes d (Reading.Refused c at) = tt
 
 module _ (m : List ℕ) (r : FrameRange) (b out : List ℕ) where
