@@ -1,6 +1,7 @@
-// What the calls answer, and 01's number of each answer. Here: power-on and load.
-pub mod change; // change.rt: reconfigurations
-pub mod layout; // layout.rt: checks of a layout
+// 01's table of stops and refusals, with the map to its numbers, and the answers that are made of its rows.
+ghost use mathlib.Core.Path.{_≡_};
+ghost use Rattle.answers.specs.StopsAndRefusals.{stopNumber, refusalNumber};
+ghost use Rattle.answers.specs.AnswerNumbers.{answerNumber, answerValue, loadNumber};
 
 // Why a load stopped: 01's stops 1 to 10 in their order.
 pub enum Stop {
@@ -16,17 +17,40 @@ pub enum Stop {
     UnknownCommand,
 }
 
-// What a call answers: done, a stop, or a refusal.
-pub enum Answer {
-    Done,
-    Stopped(Stop),
+// Why a call is refused: 01's refusals in the order of their numbers, with each cause of 31, and the C interface's 24.
+// Missing: bytes are missing, or a number is cut short. Trailing: bytes follow the last step.
+pub enum Refusal {
     UnknownDevice,
     Inconsistent,
     WrongMemory,
+    NotHunting,
+    BadForm,
+    Missing,
+    UnknownKind,
+    ZeroCount,
+    NotRising,
+    TooManySteps,
+    Trailing,
+    WrongEdition,
+    WrongDevice,
+    OutsidePart,
+    OutsideRange,
+    ShortOutput,
+    WrongRange,
 }
 
-ghost use mathlib.Core.Path.{_≡_};
-ghost use Rattle.answers.specs.StopNumbers.{stopNumber, answerNumber};
+// Done with a value, or refused with what the refusal tells: an offset, the length needed, or 0.
+pub enum Answer {
+    Done(u64),
+    Refused { refusal: Refusal, told: u64 },
+}
+
+// What power-on or a load answers. Neither tells a value: the bytes taken stand beside the answer.
+pub enum LoadAnswer {
+    Done,
+    Stopped(Stop),
+    Refused(Refusal),
+}
 
 // 01's number of a stop.
 pub fn stop_number(stop: Stop) -> u32
@@ -46,15 +70,58 @@ pub fn stop_number(stop: Stop) -> u32
     }
 }
 
-// 01's number of an answer.
+// The number of a refusal.
+pub fn refusal_number(refusal: Refusal) -> u32
+    ensures { λ r. ⌜ r ≡ refusalNumber refusal ⌝ }
+{
+    match refusal {
+        Refusal::UnknownDevice => 21,
+        Refusal::Inconsistent => 22,
+        Refusal::WrongMemory => 23,
+        Refusal::NotHunting => 24,
+        Refusal::BadForm => 31,
+        Refusal::Missing => 31,
+        Refusal::UnknownKind => 31,
+        Refusal::ZeroCount => 31,
+        Refusal::NotRising => 31,
+        Refusal::TooManySteps => 31,
+        Refusal::Trailing => 31,
+        Refusal::WrongEdition => 32,
+        Refusal::WrongDevice => 33,
+        Refusal::OutsidePart => 34,
+        Refusal::OutsideRange => 35,
+        Refusal::ShortOutput => 36,
+        Refusal::WrongRange => 37,
+    }
+}
+
+// The number of an answer, 0 where it is done.
 pub fn answer_number(answer: Answer) -> u32
     ensures { λ r. ⌜ r ≡ answerNumber answer ⌝ }
 {
     match answer {
-        Answer::Done => 0,
-        Answer::Stopped(stop) => stop_number(stop),
-        Answer::UnknownDevice => 21,
-        Answer::Inconsistent => 22,
-        Answer::WrongMemory => 23,
+        Answer::Done(_) => 0,
+        Answer::Refused { refusal, told: _ } => refusal_number(refusal),
+    }
+}
+
+// What an answer tells beside its number.
+pub fn answer_value(answer: Answer) -> u64
+    ensures { λ r. ⌜ r ≡ answerValue answer ⌝ }
+{
+    match answer {
+        Answer::Done(value) => value,
+        Answer::Refused { refusal: _, told } => told,
+    }
+}
+
+// The number of what power-on or a load answers, 0 where it is done.
+pub fn load_number(answer: LoadAnswer) -> u32
+    ensures { λ r. ⌜ r ≡ loadNumber answer ⌝ }
+{
+    match answer {
+        LoadAnswer::Done => 0,
+        LoadAnswer::Stopped(stop) => stop_number(stop),
+        LoadAnswer::Refused(refusal) => refusal_number(refusal),
     }
 }

@@ -3,7 +3,7 @@ mod argument; // argument.rt: the numbers of the arguments
 mod input; // input.rt: standard input into a buffer
 mod tell; // tell.rt: lines to standard error
 
-use answers::layout::Verdict;
+use answers::Answer;
 use argument::Request;
 use compiler::compile;
 use input::Input;
@@ -27,9 +27,9 @@ fn write_stream(stream: &[u8]) {
 
 // Compiles a layout into an output and writes its stream, or tells why there is none.
 fn compile_into(device: u32, range: FrameRange, layout: &[u8], output: &mut [u8]) {
-    let verdict = compile(device, range, layout, output);
-    let Verdict::Accepted(length) = verdict else {
-        tell::refusal(verdict);
+    let answer = compile(device, range, layout, output);
+    let Answer::Done(length) = answer else {
+        tell::refusal(answer);
         return;
     };
     write_stream(&output[..length as usize]);

@@ -1,10 +1,10 @@
 // Lines to standard error.
 use crate::LAYOUT;
 use crate::STREAM;
-use answers::layout::Cause;
-use answers::layout::Verdict;
-use answers::layout::verdict_number;
-use answers::layout::verdict_value;
+use answers::Answer;
+use answers::Refusal;
+use answers::answer_number;
+use answers::answer_value;
 use libc::STDERR_FILENO;
 
 pub(crate) fn text(s: &[u8]) {
@@ -28,42 +28,37 @@ pub(crate) fn long_input() {
     text(b" bytes\n");
 }
 
-fn cause_meaning(cause: Cause) {
-    match cause {
-        Cause::BadForm => text(b"malformed layout: a number in a bad form"),
-        Cause::Missing => text(b"malformed layout: bytes missing"),
-        Cause::UnknownKind => text(b"malformed layout: a step of unknown kind"),
-        Cause::ZeroCount => text(b"malformed layout: a count of 0"),
-        Cause::NotRising => text(b"malformed layout: frame numbers that do not rise"),
-        Cause::TooManySteps => text(b"malformed layout: too many steps"),
-        Cause::Trailing => text(b"malformed layout: bytes after the last step"),
-        Cause::WrongEdition => text(b"an edition other than 1"),
-        Cause::WrongDevice => text(b"a layout for another device"),
-        Cause::OutsidePart => text(b"a frame outside the part"),
-        Cause::OutsideRange => text(b"a frame outside the range"),
-    }
-}
-
 fn short_output() {
     text(b"a stream longer than the output of ");
     number(STREAM as u64);
     text(b" bytes");
 }
 
-fn meaning(verdict: Verdict) {
-    match verdict {
-        Verdict::Accepted(_) => text(b"accepted"),
-        Verdict::UnknownDevice => text(b"a device number above 7"),
-        Verdict::WrongRange => text(b"a range past the part's last frame"),
-        Verdict::WrongMemory => text(b"a memory of the wrong length"),
-        Verdict::ShortOutput(_) => short_output(),
-        Verdict::Refused { cause, at: _ } => cause_meaning(cause),
+fn meaning(refusal: Refusal) {
+    match refusal {
+        Refusal::UnknownDevice => text(b"a device number above 7"),
+        Refusal::Inconsistent => text(b"an inconsistent record"),
+        Refusal::WrongMemory => text(b"a memory of the wrong length"),
+        Refusal::NotHunting => text(b"a part that does not wait for sync"),
+        Refusal::BadForm => text(b"malformed layout: a number in a bad form"),
+        Refusal::Missing => text(b"malformed layout: bytes missing"),
+        Refusal::UnknownKind => text(b"malformed layout: a step of unknown kind"),
+        Refusal::ZeroCount => text(b"malformed layout: a count of 0"),
+        Refusal::NotRising => text(b"malformed layout: frame numbers that do not rise"),
+        Refusal::TooManySteps => text(b"malformed layout: too many steps"),
+        Refusal::Trailing => text(b"malformed layout: bytes after the last step"),
+        Refusal::WrongEdition => text(b"an edition other than 1"),
+        Refusal::WrongDevice => text(b"a layout for another device"),
+        Refusal::OutsidePart => text(b"a frame outside the part"),
+        Refusal::OutsideRange => text(b"a frame outside the range"),
+        Refusal::ShortOutput => short_output(),
+        Refusal::WrongRange => text(b"a range past the part's last frame"),
     }
 }
 
 // A refusal's number, its offset in the layout or the length that the stream needs, and what it means.
-pub(crate) fn refusal(verdict: Verdict) {
-    let code = verdict_number(verdict);
+pub(crate) fn refusal(answer: Answer) {
+    let code = answer_number(answer);
     text(b"build: ");
     number(code as u64);
     if code == 36 {
@@ -71,8 +66,11 @@ pub(crate) fn refusal(verdict: Verdict) {
     } else {
         text(b" at offset ");
     }
-    number(verdict_value(verdict));
+    number(answer_value(answer));
     text(b": ");
-    meaning(verdict);
+    match answer {
+        Answer::Done(_) => text(b"accepted"),
+        Answer::Refused { refusal, told: _ } => meaning(refusal),
+    }
     text(b"\n");
 }

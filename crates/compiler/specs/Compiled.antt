@@ -6,12 +6,11 @@ use mathlib.Core.List.{List, [], _++_}
 use mathlib.Core.Bool.{cond}
 use lib.Dec.{ltb}
 use lib.ListN.{length, drop}
-use Rattle.parts.specs.Table.{lengthAt, countAt}
-use Rattle.answers.specs.declared.layout.Verdict.{Verdict}
-use Rattle.answers.specs.declared.layout.Verdict.the-variants as Verdict
-use Rattle.layout.specs.Ownership.{owns}
+use Rattle.answers.specs.declared.Refusal.the-variants as Refusal
+use Rattle.answers.specs.declared.Answer.{Answer}
+use Rattle.answers.specs.declared.Answer.the-variants as Answer
 use Rattle.layout.specs.Step.{Step, Reading}
-use Rattle.layout.specs.Layout.{layoutRead, check}
+use Rattle.layout.specs.Layout.{deskLayout, check}
 use Rattle.layout.specs.declared.FrameRange.{FrameRange}
 use Rattle.stream.specs.Stream.{stream}
 
@@ -22,28 +21,24 @@ streamOf d (Reading.Refused c at) = []
 
 -- the stream of a layout that is read for a device and a range
 abbrev pub streamFor : ℕ → FrameRange → List ℕ → List ℕ
-streamFor d r b = streamOf d (layoutRead (lengthAt d) (countAt d) (owns r) b d)
+streamFor d r b = streamOf d (deskLayout d r b)
 
 pub record Compiled : Type 0 where
-  pub verdict : Verdict
+  pub answer : Answer
   pub output : List ℕ
 
-abbrev pub compiles : Verdict → List ℕ → Compiled
-compiles v out = record { verdict = v; output = out }
+abbrev pub compiles : Answer → List ℕ → Compiled
+compiles v out = record { answer = v; output = out }
 
 -- "touches only its bytes": the output's own follow those of the stream
 abbrev pub overwritten : List ℕ → List ℕ → List ℕ
 overwritten bytes out = bytes ++ drop (length bytes) out
 
 -- what a check's verdict leads to
-unfoldable pub compiledAfter : Verdict → ℕ → FrameRange → List ℕ → List ℕ → Compiled
-compiledAfter (Verdict.Accepted n) d r b out =
-    cond (ltb (length out) n) (compiles (Verdict.ShortOutput n) out) (compiles (Verdict.Accepted n) (overwritten (streamFor d r b) out))
-compiledAfter Verdict.UnknownDevice d r b out = compiles Verdict.UnknownDevice out
-compiledAfter Verdict.WrongRange d r b out = compiles Verdict.WrongRange out
-compiledAfter Verdict.WrongMemory d r b out = compiles Verdict.WrongMemory out
-compiledAfter (Verdict.ShortOutput n) d r b out = compiles (Verdict.ShortOutput n) out
-compiledAfter (Verdict.Refused c at) d r b out = compiles (Verdict.Refused c at) out
+unfoldable pub compiledAfter : Answer → ℕ → FrameRange → List ℕ → List ℕ → Compiled
+compiledAfter (Answer.Done n) d r b out =
+    cond (ltb (length out) n) (compiles (Answer.Refused Refusal.ShortOutput n) out) (compiles (Answer.Done n) (overwritten (streamFor d r b) out))
+compiledAfter (Answer.Refused c at) d r b out = compiles (Answer.Refused c at) out
 
 abbrev pub compiled : ℕ → FrameRange → List ℕ → List ℕ → Compiled
 compiled d r b out = compiledAfter (check d r b) d r b out

@@ -10,14 +10,13 @@ use crc16::CrcTable;
 use layout::FrameRange;
 use layout::step::StepAt;
 use layout::step::read_step;
+use layout::step::step_list;
 use layout::step::step_offset;
 use numbers::Number;
 use numbers::read_number;
-use parts::frame::AddressAnswer;
-use parts::frame::frame_address;
-use parts::table::frame_length;
-use parts::table::idcode;
-use parts::table::value_of;
+use parts::frame::address_at;
+use parts::table::idcode_at;
+use parts::table::length_at;
 use registers::Register;
 use registers::command;
 ghost use mathlib.Core.Path.{_≡_};
@@ -27,11 +26,9 @@ ghost use Prim.Native.Nat.{_+_, _≤_, _<_};
 ghost use lib.ListN.{length};
 ghost use Rattle.crc16.specs.NibbleTable.{entries};
 ghost use Rattle.parts.specs.Table.{lengthAt, countAt};
-ghost use Rattle.parts.specs.FrameAddress.{addressTold};
-ghost use Rattle.layout.specs.Ownership.{owns};
 ghost use Rattle.layout.specs.Step.{listed};
-ghost use Rattle.layout.specs.StepReading.{stepsAt};
-ghost use Rattle.layout.specs.Layout.{layoutRead};
+ghost use Rattle.layout.specs.StepReading.{deskSteps};
+ghost use Rattle.layout.specs.Layout.{deskLayout};
 ghost use Rattle.layout.specs.Inner.TargetNumbers.{numbersAt};
 ghost use Rattle.layout.specs.Laws.AcceptedLayout.{isRead};
 ghost use Rattle.layout.specs.Inner.FirstStep.{stepOf, StepBytes};
@@ -40,17 +37,6 @@ ghost use Rattle.compiler.specs.Compiled.{streamFor, overwritten};
 ghost use Rattle.compiler.specs.Inner.WholeStream.{synced};
 ghost use Rattle.compiler.specs.Inner.PacketWriting.{Room, Written, cursorAt};
 ghost use Rattle.compiler.specs.Inner.StepPackets.{StepCount};
-
-// The frame address that an answer tells, 0 where it is refused.
-fn address_told(answer: AddressAnswer) -> u32
-    ensures { λ r. ⌜ r ≡ addressTold answer ⌝ }
-{
-    match answer {
-        AddressAnswer::Address(address) => address,
-        AddressAnswer::UnknownDevice => 0,
-        AddressAnswer::OutsidePart => 0,
-    }
-}
 
 // Writes a frame's address to FAR.
 fn put_address(
@@ -63,8 +49,7 @@ fn put_address(
     requires { ⌜ (now table ≡ entries 256 0) × (cursor .at + 8 ≤ length (now output)) ⌝ }
     ensures { λ r. ⌜ Written (now (output .entry)) cursor (toFrame device frame ∷ []) (now (output .exit)) r ⌝ }
 {
-    let answer = frame_address(device, frame);
-    let address = address_told(answer);
+    let address = address_at(device, frame);
     put_write(table, output, cursor, Register::Far, address)
 }
 
@@ -138,9 +123,9 @@ fn put_step(
     requires { ⌜ (now table ≡ entries 256 0) × StepBytes (lengthAt device) (now layout) step × StepCount (countAt device) step × Room (now output) cursor (stepsPackets device (stepOf (lengthAt device) (now layout) step)) ⌝ }
     ensures { λ r. ⌜ Written (now (output .entry)) cursor (stepsPackets device (stepOf (lengthAt device) (now (layout .entry)) step)) (now (output .exit)) r ⌝ }
 {
-    let l = value_of(frame_length(device)) as usize;
+    let l = length_at(device) as usize;
     match step {
-        StepAt::Refused { cause: _, at: _ } => cursor,
+        StepAt::Refused { refusal: _, at: _ } => cursor,
         StepAt::FrameWrite {
             first,
             count,
@@ -175,8 +160,8 @@ fn put_steps(
     count: u32,
     start: usize,
 ) -> Cursor
-    requires { ⌜ (now table ≡ entries 256 0) × (isRead (stepsAt (lengthAt device) (countAt device) (owns range) (now layout) count start) ≡ true) × Room (now output) cursor (stepsPackets device (listed (stepsAt (lengthAt device) (countAt device) (owns range) (now layout) count start))) ⌝ }
-    ensures { λ r. ⌜ Written (now (output .entry)) cursor (stepsPackets device (listed (stepsAt (lengthAt device) (countAt device) (owns range) (now (layout .entry)) count start))) (now (output .exit)) r ⌝ }
+    requires { ⌜ (now table ≡ entries 256 0) × (isRead (deskSteps device range (now layout) count start) ≡ true) × Room (now output) cursor (stepsPackets device (listed (deskSteps device range (now layout) count start))) ⌝ }
+    ensures { λ r. ⌜ Written (now (output .entry)) cursor (stepsPackets device (listed (deskSteps device range (now (layout .entry)) count start))) (now (output .exit)) r ⌝ }
 {
     let mut last = cursor;
     let mut left: u32 = count;
@@ -190,7 +175,7 @@ fn put_steps(
     last
 }
 
-// Writes the steps of a layout that was accepted. Its edition and its device have one byte each.
+// Writes the steps of a layout that was accepted.
 fn put_list(
     table: &CrcTable,
     output: &mut [u8],
@@ -199,16 +184,20 @@ fn put_list(
     range: FrameRange,
     layout: &[u8],
 ) -> Cursor
-    requires { ⌜ (now table ≡ entries 256 0) × (device ≤ 7) × (isRead (layoutRead (lengthAt device) (countAt device) (owns range) (now layout) device) ≡ true) × Room (now output) cursor (stepsPackets device (listed (layoutRead (lengthAt device) (countAt device) (owns range) (now layout) device))) ⌝ }
-    ensures { λ r. ⌜ Written (now (output .entry)) cursor (stepsPackets device (listed (layoutRead (lengthAt device) (countAt device) (owns range) (now (layout .entry)) device))) (now (output .exit)) r ⌝ }
+    requires { ⌜ (now table ≡ entries 256 0) × (device ≤ 7) × (isRead (deskLayout device range (now layout)) ≡ true) × Room (now output) cursor (stepsPackets device (listed (deskLayout device range (now layout)))) ⌝ }
+    ensures { λ r. ⌜ Written (now (output .entry)) cursor (stepsPackets device (listed (deskLayout device range (now (layout .entry))))) (now (output .exit)) r ⌝ }
 {
-    let count = read_number(layout, 2);
-    match count {
-        Number::Refused(_) => cursor,
-        Number::Value { value, next } => {
-            put_steps(table, output, cursor, device, range, layout, value, next)
-        }
-    }
+    let list = step_list(layout);
+    put_steps(
+        table,
+        output,
+        cursor,
+        device,
+        range,
+        layout,
+        list.count,
+        list.start,
+    )
 }
 
 // Writes what stands before the steps.
@@ -220,15 +209,15 @@ fn put_heading(table: &CrcTable, output: &mut [u8], device: u32) -> Cursor
     put_word(output, 4, 0xAA995566);
     let cursor = Cursor { at: 8, crc: 0 };
     let reset = put_command(table, output, cursor, command::RCRC);
-    let length = value_of(frame_length(device));
+    let length = length_at(device);
     let sized = put_write(table, output, reset, Register::Flr, length - 1);
-    let code = value_of(idcode(device));
+    let code = idcode_at(device);
     put_write(table, output, sized, Register::Idcode, code)
 }
 
 // Writes the stream of a layout that was accepted.
 pub(crate) fn put_stream(device: u32, range: FrameRange, layout: &[u8], output: &mut [u8])
-    requires { ⌜ (device ≤ 7) × (isRead (layoutRead (lengthAt device) (countAt device) (owns range) (now layout) device) ≡ true) × (length (streamFor device range (now layout)) ≤ length (now output)) ⌝ }
+    requires { ⌜ (device ≤ 7) × (isRead (deskLayout device range (now layout)) ≡ true) × (length (streamFor device range (now layout)) ≤ length (now output)) ⌝ }
     ensures { λ _. ⌜ now (output .exit) ≡ overwritten (streamFor device range (now (layout .entry))) (now (output .entry)) ⌝ }
 {
     let table = crc16::table();

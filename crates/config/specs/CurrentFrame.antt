@@ -10,7 +10,7 @@ use Rattle.config.specs.declared.Current.the-variants as Current
 unfoldable pub currentFrom : NumberAnswer → Current
 currentFrom (NumberAnswer.Number n) = Current.Frame n
 currentFrom NumberAnswer.NoFrame = Current.NoFrame
-currentFrom NumberAnswer.UnknownDevice = Current.NoFrame
+currentFrom (NumberAnswer.Refused c) = Current.NoFrame
 
 -- 01: "A FAR write makes the frame it names the current one, or none"
 abbrev pub named : ℕ → ℕ → Current

@@ -8,19 +8,20 @@ use crate::Phase;
 use crate::Registers;
 use crate::Transition;
 use crate::command::act;
-use crate::figures::count_at;
-use crate::figures::idcode_at;
-use crate::figures::length_at;
-use crate::figures::named;
 use crate::header::going;
 use crate::header::stopped;
 use crate::writes::write;
 use answers::Stop;
+use parts::frame::NumberAnswer;
+use parts::table::count_at;
+use parts::table::idcode_at;
+use parts::table::length_at;
 use registers::Register;
 use registers::command;
 use registers::is_fdri;
 ghost use mathlib.Core.Path.{_≡_};
 ghost use Prim.Native.Nat.{_<_};
+ghost use Rattle.config.specs.CurrentFrame.{named};
 ghost use Rattle.config.specs.ControlState.{withRegisters, withFlags, withCurrent};
 ghost use Rattle.config.specs.DataWords.{ended, onward, put, checked, crcWord, farWord, cmdWord, stepped, frameStored, fdriWord, mfwrStored, mfwrWord, idcodeWord, flrWord, dataWord};
 
@@ -114,6 +115,18 @@ pub(crate) fn crc_word(phase: Phase, control: Control, word: u32) -> Transition
     let mut flags = control.flags;
     flags.check_passed = true;
     going(phase, with_flags(flags, after))
+}
+
+// The frame that an address names.
+fn named(device: u32, address: u32) -> Current
+    ensures { λ r. ⌜ r ≡ named device address ⌝ }
+{
+    let answer = parts::frame::frame_number(device, address);
+    match answer {
+        NumberAnswer::Number(n) => Current::Frame(n),
+        NumberAnswer::NoFrame => Current::NoFrame,
+        NumberAnswer::Refused(_) => Current::NoFrame,
+    }
 }
 
 fn far_word(phase: Phase, control: Control, word: u32) -> Transition

@@ -100,7 +100,6 @@ pub struct Transition {
 mod command; // command.rt: what a command does
 mod header; // header.rt: header words
 mod writes; // writes.rt: a word written to a register
-mod figures; // figures.rt: a part's figures by device number
 mod data; // data.rt: a data word to each register
 mod stream; // stream.rt: the hunt, and words from bytes
 

@@ -6,23 +6,24 @@ use mathlib.Core.List.{List, [], _∷_}
 use mathlib.Core.Bool.{Bool, cond}
 use lib.Dec.{eqb, ltb}
 use lib.ListN.{length}
-use Rattle.parts.specs.Table.{figure, frameCount, lengthAt}
-use Rattle.parts.specs.declared.table.Figure.{Figure}
-use Rattle.parts.specs.declared.table.Figure.the-variants as Figure
-use Rattle.answers.specs.declared.layout.Cause.the-variants as Cause
-use Rattle.answers.specs.declared.layout.Verdict.{Verdict}
-use Rattle.answers.specs.declared.layout.Verdict.the-variants as Verdict
+use Rattle.parts.specs.Table.{partOf, lengthAt, countAt}
+use Rattle.parts.specs.declared.table.PartAnswer.{PartAnswer}
+use Rattle.parts.specs.declared.table.PartAnswer.the-variants as PartAnswer
+use Rattle.answers.specs.declared.Refusal.the-variants as Refusal
+use Rattle.answers.specs.declared.Answer.{Answer}
+use Rattle.answers.specs.declared.Answer.the-variants as Answer
 use Rattle.numbers.specs.Number.{numberAt}
 use Rattle.numbers.specs.declared.Number.{Number}
 use Rattle.numbers.specs.declared.Number.the-variants as Number
-use Rattle.layout.specs.Ownership.{owns}
+use Rattle.layout.specs.Ownership.{forDesk}
 use Rattle.layout.specs.Step.{Step, FrameWrite, MultiFrameWrite, Reading, Read, Refused}
 use Rattle.layout.specs.StepReading.{stepsAt}
 use Rattle.layout.specs.declared.FrameRange.{FrameRange}
+use Rattle.layout.specs.declared.step.StepList.{StepList}
 
 -- "for extra bytes, the first of them"
 unfoldable pub endRead : List ℕ → Reading (List Step) → Reading (List Step)
-endRead b (Reading.Read ss next) = cond (ltb next (length b)) (Refused Cause.Trailing next) (Read ss next)
+endRead b (Reading.Read ss next) = cond (ltb next (length b)) (Refused Refusal.Trailing next) (Read ss next)
 endRead b (Reading.Refused c at) = Refused c at
 
 -- "step count (at most 4096)"
@@ -31,17 +32,17 @@ mostSteps = 4096
 
 module _ (l f : ℕ) (own : ℕ → Bool) (b : List ℕ) where
   unfoldable pub countRead : ℕ → Number → Reading (List Step)
-  countRead at (Number.Value n next) = cond (ltb mostSteps n) (Refused Cause.TooManySteps at) (endRead b (stepsAt l f own b n next))
+  countRead at (Number.Value n next) = cond (ltb mostSteps n) (Refused Refusal.TooManySteps at) (endRead b (stepsAt l f own b n next))
   countRead at (Number.Refused c) = Refused c at
 
   -- the layout's device is d
   unfoldable pub deviceRead : ℕ → ℕ → Number → Reading (List Step)
-  deviceRead d at (Number.Value v next) = cond (eqb v d) (countRead next (numberAt b next)) (Refused Cause.WrongDevice at)
+  deviceRead d at (Number.Value v next) = cond (eqb v d) (countRead next (numberAt b next)) (Refused Refusal.WrongDevice at)
   deviceRead d at (Number.Refused c) = Refused c at
 
   -- "edition 1"
   unfoldable pub editionRead : ℕ → ℕ → Number → Reading (List Step)
-  editionRead d at (Number.Value v next) = cond (eqb v 1) (deviceRead d next (numberAt b next)) (Refused Cause.WrongEdition at)
+  editionRead d at (Number.Value v next) = cond (eqb v 1) (deviceRead d next (numberAt b next)) (Refused Refusal.WrongEdition at)
   editionRead d at (Number.Refused c) = Refused c at
 
   -- the layout that begins at an offset
@@ -51,6 +52,24 @@ module _ (l f : ℕ) (own : ℕ → Bool) (b : List ℕ) where
   -- a layout from its first byte on
   abbrev pub layoutRead : ℕ → Reading (List Step)
   layoutRead d = layoutAt d 0
+
+-- ---- a layout, as a desk reads it
+
+-- the layout that begins at an offset, for the desk's device number d and range r
+abbrev pub deskLayoutAt : ℕ → FrameRange → List ℕ → ℕ → Reading (List Step)
+deskLayoutAt d r b at = forDesk layoutAt d r b d at
+
+abbrev pub deskLayout : ℕ → FrameRange → List ℕ → Reading (List Step)
+deskLayout d r b = deskLayoutAt d r b 0
+
+-- how many steps an accepted layout has, and the offset at which they begin: its step count is its third number, after an edition and a
+-- device of one byte each. None where no number stands there
+unfoldable pub stepListOf : Number → StepList
+stepListOf (Number.Value n first) = record { count = n; start = first }
+stepListOf (Number.Refused c) = record { count = 0; start = 0 }
+
+abbrev pub stepList : List ℕ → StepList
+stepList b = stepListOf (numberAt b 2)
 
 -- ---- the words of the stream
 
@@ -69,19 +88,18 @@ streamWordCount l ss = 12 + stepsWordCount l ss
 
 -- ---- the check
 
-unfoldable pub verdictOf : ℕ → Reading (List Step) → Verdict
-verdictOf l (Reading.Read ss next) = Verdict.Accepted (4 * streamWordCount l ss)
-verdictOf l (Reading.Refused c at) = Verdict.Refused c at
+unfoldable pub checkAnswer : ℕ → Reading (List Step) → Answer
+checkAnswer l (Reading.Read ss next) = Answer.Done (4 * streamWordCount l ss)
+checkAnswer l (Reading.Refused c at) = Answer.Refused c at
 
--- "Checks: 21, 37, then the layout"; 37: "seat's first frame plus count above F"
-unfoldable pub checkFor : Figure → ℕ → FrameRange → List ℕ → ℕ → Verdict
-checkFor (Figure.Value f) d r b at =
-    cond (ltb f (r .first + r .count)) Verdict.WrongRange (verdictOf (lengthAt d) (layoutAt (lengthAt d) f (owns r) b d at))
-checkFor Figure.UnknownDevice d r b at = Verdict.UnknownDevice
+-- "Checks: 21, 37, then the layout"; 37: "seat's first frame plus count above F"; "21 and 37 tell 0"
+unfoldable pub checkFor : PartAnswer → ℕ → FrameRange → Reading (List Step) → Answer
+checkFor (PartAnswer.Known p) d r x = cond (ltb (countAt d) (r .first + r .count)) (Answer.Refused Refusal.WrongRange 0) (checkAnswer (lengthAt d) x)
+checkFor (PartAnswer.Refused c) d r x = Answer.Refused c 0
 
 -- the check of the layout that begins at an offset
-abbrev pub checkAt : ℕ → FrameRange → List ℕ → ℕ → Verdict
-checkAt d r b at = checkFor (figure frameCount d) d r b at
+abbrev pub checkAt : ℕ → FrameRange → List ℕ → ℕ → Answer
+checkAt d r b at = checkFor (partOf d) d r (deskLayoutAt d r b at)
 
-abbrev pub check : ℕ → FrameRange → List ℕ → Verdict
+abbrev pub check : ℕ → FrameRange → List ℕ → Answer
 check d r b = checkAt d r b 0

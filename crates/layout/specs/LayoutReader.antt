@@ -3,7 +3,7 @@
 use Prim.Native.Nat.{ℕ}
 use mathlib.Core.List.{List}
 use denote.Ref.{RefT, now}
-use Rattle.answers.specs.declared.layout.Verdict.{Verdict}
+use Rattle.answers.specs.declared.Answer.{Answer}
 use Rattle.layout.specs.StepReading.{deskStep}
 use Rattle.layout.specs.Layout.{checkAt}
 use Rattle.layout.specs.declared.FrameRange.{FrameRange}
@@ -19,5 +19,5 @@ abbrev pub step : ℕ → FrameRange → LayoutReader → StepAt
 step d r reader = deskStep d r (now (reader .layout)) (reader .at)
 
 -- the check of the layout that begins at the offset
-abbrev pub check : ℕ → FrameRange → LayoutReader → Verdict
+abbrev pub check : ℕ → FrameRange → LayoutReader → Answer
 check d r reader = checkAt d r (now (reader .layout)) (reader .at)

@@ -5,9 +5,9 @@ use Prim.Native.Nat.{ℕ, _+_}
 use mathlib.Core.List.{List, [], _∷_}
 use Rattle.parts.specs.Table.{lengthAt, countAt}
 use Rattle.parts.specs.FrameMemory.{placed}
-use Rattle.layout.specs.Ownership.{range, owns}
+use Rattle.layout.specs.Ownership.{range}
 use Rattle.layout.specs.Step.{Step, FrameWrite, MultiFrameWrite, Reading, Read, Refused}
-use Rattle.layout.specs.Layout.{layoutRead}
+use Rattle.layout.specs.Layout.{deskLayout}
 
 module _ (l : ℕ) where
   -- "Kind 1 at first frame f: for each i under k, frame f+i becomes the step's frame i"
@@ -36,4 +36,4 @@ module _ (l : ℕ) where
 
 -- "It is fed the part and the layout": it reads the layout for the whole part
 abbrev pub machine : ℕ → List ℕ → List ℕ → List ℕ
-machine d b m = madeOf (lengthAt d) (layoutRead (lengthAt d) (countAt d) (owns (range 0 (countAt d))) b d) m
+machine d b m = madeOf (lengthAt d) (deskLayout d (range 0 (countAt d)) b) m

@@ -4,7 +4,7 @@
 use Prim.Native.Nat.{ℕ, zero, suc, _*_}
 use mathlib.Core.List.{List, [], _∷_}
 use lib.ListN.{take, drop}
-use Rattle.answers.specs.declared.layout.Cause.{Cause}
+use Rattle.answers.specs.declared.Refusal.{Refusal}
 
 -- FrameWrite, 01's kind 1: the first frame's number, then the frames. MultiFrameWrite, kind 2: the frame, then its targets.
 pub data Step : Type 0 where
@@ -14,7 +14,7 @@ pub data Step : Type 0 where
 -- what was read, with the offset after it; or why nothing was, with the offset that is told
 pub data Reading (A : Type 0) : Type 0 where
   Read : A → ℕ → Reading A
-  Refused : Cause → ℕ → Reading A
+  Refused : Refusal → ℕ → Reading A
 
 -- one before the others of a list
 unfoldable pub before : {A : Type 0} → A → Reading (List A) → Reading (List A)

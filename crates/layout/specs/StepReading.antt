@@ -6,13 +6,12 @@ use mathlib.Core.List.{List, []}
 use mathlib.Core.Bool.{Bool, cond}
 use lib.Dec.{eqb, ltb}
 use lib.ListN.{length, take, drop}
-use Rattle.parts.specs.Table.{lengthAt, countAt}
-use Rattle.answers.specs.LayoutRefusals.{causeNumber}
-use Rattle.answers.specs.declared.layout.Cause.the-variants as Cause
+use Rattle.answers.specs.StopsAndRefusals.{refusalNumber}
+use Rattle.answers.specs.declared.Refusal.the-variants as Refusal
 use Rattle.numbers.specs.Number.{numberAt}
 use Rattle.numbers.specs.declared.Number.{Number}
 use Rattle.numbers.specs.declared.Number.the-variants as Number
-use Rattle.layout.specs.Ownership.{owns, ownsRun}
+use Rattle.layout.specs.Ownership.{forDesk, ownsRun}
 use Rattle.layout.specs.Step.{Step, FrameWrite, MultiFrameWrite, Reading, Read, Refused, before, listed, frames}
 use Rattle.layout.specs.declared.FrameRange.{FrameRange}
 use Rattle.layout.specs.declared.step.StepAt.{StepAt}
@@ -21,8 +20,8 @@ use Rattle.layout.specs.declared.step.StepAt.the-variants as StepAt
 -- "each target: not rising (31), 34, 35"; low is the least that rises
 unfoldable pub judgedTarget : ℕ → (ℕ → Bool) → ℕ → Number → Number
 judgedTarget f own low (Number.Value t next) =
-    cond (ltb t low) (Number.Refused Cause.NotRising)
-    (cond (ltb t f) (cond (own t) (Number.Value t next) (Number.Refused Cause.OutsideRange)) (Number.Refused Cause.OutsidePart))
+    cond (ltb t low) (Number.Refused Refusal.NotRising)
+    (cond (ltb t f) (cond (own t) (Number.Value t next) (Number.Refused Refusal.OutsideRange)) (Number.Refused Refusal.OutsidePart))
 judgedTarget f own low (Number.Refused c) = Number.Refused c
 
 -- a target before those that `go` reads from the next least number and the next offset on
@@ -46,11 +45,11 @@ module _ (l f : ℕ) (own : ℕ → Bool) (b : List ℕ) where
   -- read at offset count; its frames begin at offset body
   unfoldable pub judgedWrite : ℕ → ℕ → ℕ → ℕ → ℕ → StepAt
   judgedWrite n at k count body =
-      cond (eqb k 0) (StepAt.Refused Cause.ZeroCount count)
-      (cond (ltb f (n + k)) (StepAt.Refused Cause.OutsidePart at)
+      cond (eqb k 0) (StepAt.Refused Refusal.ZeroCount count)
+      (cond (ltb f (n + k)) (StepAt.Refused Refusal.OutsidePart at)
       (cond (ownsRun own k n)
-      (cond (ltb (length b) (body + 4 * l * k)) (StepAt.Refused Cause.Missing (length b)) (StepAt.FrameWrite n k body (body + 4 * l * k)))
-      (StepAt.Refused Cause.OutsideRange at)))
+      (cond (ltb (length b) (body + 4 * l * k)) (StepAt.Refused Refusal.Missing (length b)) (StepAt.FrameWrite n k body (body + 4 * l * k)))
+      (StepAt.Refused Refusal.OutsideRange at)))
 
   unfoldable pub writeCount : ℕ → ℕ → ℕ → Number → StepAt
   writeCount n at count (Number.Value k body) = judgedWrite n at k count body
@@ -63,9 +62,9 @@ module _ (l f : ℕ) (own : ℕ → Bool) (b : List ℕ) where
   -- kind 2: "k = 0 (31), k above F (34), missing bytes; each target"
   unfoldable pub judgedMulti : ℕ → ℕ → ℕ → StepAt
   judgedMulti k at body =
-      cond (eqb k 0) (StepAt.Refused Cause.ZeroCount at)
-      (cond (ltb f k) (StepAt.Refused Cause.OutsidePart at)
-      (cond (ltb (length b) (body + 4 * l)) (StepAt.Refused Cause.Missing (length b))
+      cond (eqb k 0) (StepAt.Refused Refusal.ZeroCount at)
+      (cond (ltb f k) (StepAt.Refused Refusal.OutsidePart at)
+      (cond (ltb (length b) (body + 4 * l)) (StepAt.Refused Refusal.Missing (length b))
       (targetsRead l k body (targetsAt f own b k 0 (body + 4 * l)))))
 
   unfoldable pub multiCount : ℕ → Number → StepAt
@@ -76,7 +75,7 @@ module _ (l f : ℕ) (own : ℕ → Bool) (b : List ℕ) where
   unfoldable pub stepKind : ℕ → Number → StepAt
   stepKind at (Number.Value kind next) =
       cond (eqb kind 1) (writeFirst next (numberAt b next))
-      (cond (eqb kind 2) (multiCount next (numberAt b next)) (StepAt.Refused Cause.UnknownKind at))
+      (cond (eqb kind 2) (multiCount next (numberAt b next)) (StepAt.Refused Refusal.UnknownKind at))
   stepKind at (Number.Refused c) = StepAt.Refused c at
 
   abbrev pub stepAt : ℕ → StepAt
@@ -93,18 +92,22 @@ module _ (l f : ℕ) (own : ℕ → Bool) (b : List ℕ) where
   stepsAt zero at = Read [] at
   stepsAt (suc n) at = andStep (stepAt at) (λ next. stepsAt n next)
 
--- ---- one step, as a desk reads it
+-- ---- the steps, as a desk reads them
 
 -- the step at an offset, for the desk's device number d and range r. A number that names no part has no frames: 01 leaves the step
 -- free there, and it is refused (specs/Laws/NoPart.antt)
 abbrev pub deskStep : ℕ → FrameRange → List ℕ → ℕ → StepAt
-deskStep d r b at = stepAt (lengthAt d) (countAt d) (owns r) b at
+deskStep d r b at = forDesk stepAt d r b at
+
+-- n steps
+abbrev pub deskSteps : ℕ → FrameRange → List ℕ → ℕ → ℕ → Reading (List Step)
+deskSteps d r b n at = forDesk stepsAt d r b n at
 
 -- 01's number of a step, 0 where it was read
 abbrev pub stepRefusal : StepAt → ℕ
 stepRefusal (StepAt.FrameWrite n k body next) = 0
 stepRefusal (StepAt.MultiFrameWrite k body targets next) = 0
-stepRefusal (StepAt.Refused c at) = causeNumber c
+stepRefusal (StepAt.Refused c at) = refusalNumber c
 
 -- the offset told: the one after the step, or the one of what is refused
 unfoldable pub stepOffset : StepAt → ℕ

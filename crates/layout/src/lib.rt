@@ -6,7 +6,7 @@ pub mod step; // step.rt: one step
 mod targets; // targets.rt: the targets of a step
 
 use crate::reader::LayoutReader;
-use answers::layout::Verdict;
+use answers::Answer;
 ghost use mathlib.Core.Path.{_≡_};
 ghost use Rattle.layout.specs.Layout.{check};
 
@@ -17,7 +17,7 @@ pub struct FrameRange {
 }
 
 // Checks a layout: 21, 37, then the layout front to back. Accepted: with the length of its stream in bytes.
-pub fn check(device: u32, range: FrameRange, layout: &[u8]) -> Verdict
+pub fn check(device: u32, range: FrameRange, layout: &[u8]) -> Answer
     ensures { λ r. ⌜ r ≡ check device range (now (layout .entry)) ⌝ }
 {
     LayoutReader::new(layout, 0).check(device, range)

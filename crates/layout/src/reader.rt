@@ -3,7 +3,7 @@ use crate::FrameRange;
 use crate::head::check_at;
 use crate::step::StepAt;
 use crate::step::step_at;
-use answers::layout::Verdict;
+use answers::Answer;
 ghost use mathlib.Core.Path.{_≡_};
 ghost use Rattle.layout.specs.LayoutReader.{opened, step, check};
 
@@ -28,7 +28,7 @@ impl<'a> LayoutReader<'a> {
     }
 
     // Checks the layout that begins at the offset.
-    pub fn check(self, device: u32, range: FrameRange) -> Verdict
+    pub fn check(self, device: u32, range: FrameRange) -> Answer
         ensures { λ r. ⌜ r ≡ check device range (self .entry) ⌝ }
     {
         check_at(device, range, self.layout, self.at)

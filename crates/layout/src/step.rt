@@ -3,20 +3,19 @@ use crate::FrameRange;
 use crate::range::owns_run;
 use crate::reader::LayoutReader;
 use crate::targets::multi_targets;
-use answers::layout::Cause;
-use answers::layout::cause_number;
+use answers::Refusal;
+use answers::refusal_number;
 use numbers::Number;
 use numbers::read_number;
-use parts::table::frame_count;
-use parts::table::frame_length;
-use parts::table::value_of;
+use parts::table::count_at;
+use parts::table::length_at;
 ghost use mathlib.Core.Path.{_≡_};
 ghost use Prim.Native.Nat.{_-_, _≤_};
 ghost use lib.ListN.{length};
-ghost use Rattle.parts.specs.Table.{lengthAt, countAt};
 ghost use Rattle.numbers.specs.Number.{numberAt};
-ghost use Rattle.layout.specs.Ownership.{owns};
+ghost use Rattle.layout.specs.Ownership.{forDesk};
 ghost use Rattle.layout.specs.declared.step.StepAt.the-variants as StepAt;
+ghost use Rattle.layout.specs.Layout.{stepList};
 ghost use Rattle.layout.specs.StepReading.{judgedWrite, writeCount, writeFirst, judgedMulti, multiCount, deskStep, stepRefusal, stepOffset};
 
 // A step that was read: where its frames and its targets lie, and the offset after it.
@@ -34,16 +33,22 @@ pub enum StepAt {
         next: usize,
     },
     Refused {
-        cause: Cause,
+        refusal: Refusal,
         at: usize,
     },
 }
 
-fn refused(cause: Cause, at: usize) -> StepAt
-    ensures { λ r. ⌜ r ≡ StepAt.Refused cause at ⌝ }
+// The steps of a layout: how many, and the offset of the first.
+pub struct StepList {
+    pub count: u32,
+    pub start: usize,
+}
+
+fn refused(refusal: Refusal, at: usize) -> StepAt
+    ensures { λ r. ⌜ r ≡ StepAt.Refused refusal at ⌝ }
 {
     StepAt::Refused {
-        cause: cause,
+        refusal: refusal,
         at: at,
     }
 }
@@ -70,26 +75,27 @@ fn judged_write(
     body: usize,
 ) -> StepAt
     requires { ⌜ body ≤ length (now layout) ⌝ }
-    ensures { λ r. ⌜ r ≡ judgedWrite (lengthAt device) (countAt device) (owns range) (now (layout .entry)) first at count «count_offset» body ⌝ }
+    ensures { λ r. ⌜ r ≡ forDesk judgedWrite device range (now (layout .entry)) first at count «count_offset» body ⌝ }
 {
     if count == 0 {
-        return refused(Cause::ZeroCount, count_offset);
+        return refused(Refusal::ZeroCount, count_offset);
     }
-    if (value_of(frame_count(device)) as u64) < first as u64 + count as u64 {
-        return refused(Cause::OutsidePart, at);
+    if (count_at(device) as u64) < first as u64 + count as u64 {
+        return refused(Refusal::OutsidePart, at);
     }
     if !owns_run(range, first, count) {
-        return refused(Cause::OutsideRange, at);
+        return refused(Refusal::OutsideRange, at);
     }
-    let size = 4 * value_of(frame_length(device)) as usize * count as usize;
+    let size = 4 * length_at(device) as usize * count as usize;
     if bytes_left(layout, body) < size {
-        return refused(Cause::Missing, layout.len());
+        return refused(Refusal::Missing, layout.len());
     }
+    let next = body + size;
     StepAt::FrameWrite {
         first: first,
         count: count,
         body: body,
-        next: body + size,
+        next: next,
     }
 }
 
@@ -102,11 +108,11 @@ fn write_count(
     at: usize,
     count_offset: usize,
 ) -> StepAt
-    ensures { λ r. ⌜ r ≡ writeCount (lengthAt device) (countAt device) (owns range) (now (layout .entry)) first at «count_offset» (numberAt (now (layout .entry)) «count_offset») ⌝ }
+    ensures { λ r. ⌜ r ≡ forDesk writeCount device range (now (layout .entry)) first at «count_offset» (numberAt (now (layout .entry)) «count_offset») ⌝ }
 {
     let read = read_number(layout, count_offset);
     match read {
-        Number::Refused(cause) => refused(cause, count_offset),
+        Number::Refused(refusal) => refused(refusal, count_offset),
         Number::Value { value, next } => judged_write(
             device,
             range,
@@ -122,11 +128,11 @@ fn write_count(
 
 // The first frame of a FrameWrite.
 fn write_first(device: u32, range: FrameRange, layout: &[u8], at: usize) -> StepAt
-    ensures { λ r. ⌜ r ≡ writeFirst (lengthAt device) (countAt device) (owns range) (now (layout .entry)) at (numberAt (now (layout .entry)) at) ⌝ }
+    ensures { λ r. ⌜ r ≡ forDesk writeFirst device range (now (layout .entry)) at (numberAt (now (layout .entry)) at) ⌝ }
 {
     let read = read_number(layout, at);
     match read {
-        Number::Refused(cause) => refused(cause, at),
+        Number::Refused(refusal) => refused(refusal, at),
         Number::Value { value, next } => write_count(device, range, layout, value, at, next),
     }
 }
@@ -141,27 +147,27 @@ fn judged_multi(
     body: usize,
 ) -> StepAt
     requires { ⌜ body ≤ length (now layout) ⌝ }
-    ensures { λ r. ⌜ r ≡ judgedMulti (lengthAt device) (countAt device) (owns range) (now (layout .entry)) count at body ⌝ }
+    ensures { λ r. ⌜ r ≡ forDesk judgedMulti device range (now (layout .entry)) count at body ⌝ }
 {
     if count == 0 {
-        return refused(Cause::ZeroCount, at);
+        return refused(Refusal::ZeroCount, at);
     }
-    if value_of(frame_count(device)) < count {
-        return refused(Cause::OutsidePart, at);
+    if count_at(device) < count {
+        return refused(Refusal::OutsidePart, at);
     }
-    if bytes_left(layout, body) < 4 * value_of(frame_length(device)) as usize {
-        return refused(Cause::Missing, layout.len());
+    if bytes_left(layout, body) < 4 * length_at(device) as usize {
+        return refused(Refusal::Missing, layout.len());
     }
     multi_targets(device, range, layout, count, body)
 }
 
 // The count of a MultiFrameWrite.
 fn multi_count(device: u32, range: FrameRange, layout: &[u8], at: usize) -> StepAt
-    ensures { λ r. ⌜ r ≡ multiCount (lengthAt device) (countAt device) (owns range) (now (layout .entry)) at (numberAt (now (layout .entry)) at) ⌝ }
+    ensures { λ r. ⌜ r ≡ forDesk multiCount device range (now (layout .entry)) at (numberAt (now (layout .entry)) at) ⌝ }
 {
     let read = read_number(layout, at);
     match read {
-        Number::Refused(cause) => refused(cause, at),
+        Number::Refused(refusal) => refused(refusal, at),
         Number::Value { value, next } => judged_multi(device, range, layout, value, at, next),
     }
 }
@@ -172,7 +178,7 @@ pub(crate) fn step_at(device: u32, range: FrameRange, layout: &[u8], at: usize) 
 {
     let kind = read_number(layout, at);
     match kind {
-        Number::Refused(cause) => refused(cause, at),
+        Number::Refused(refusal) => refused(refusal, at),
         Number::Value { value, next } => {
             if value == 1 {
                 return write_first(device, range, layout, next);
@@ -180,7 +186,7 @@ pub(crate) fn step_at(device: u32, range: FrameRange, layout: &[u8], at: usize) 
             if value == 2 {
                 return multi_count(device, range, layout, next);
             }
-            refused(Cause::UnknownKind, at)
+            refused(Refusal::UnknownKind, at)
         }
     }
 }
@@ -193,6 +199,20 @@ pub fn read_step(device: u32, range: FrameRange, layout: &[u8], at: usize) -> St
     LayoutReader::new(layout, at).step(device, range)
 }
 
+// The steps of an accepted layout, whose edition and device have one byte each; none where no number stands after them.
+pub fn step_list(layout: &[u8]) -> StepList
+    ensures { λ r. ⌜ r ≡ stepList (now (layout .entry)) ⌝ }
+{
+    let read = read_number(layout, 2);
+    match read {
+        Number::Refused(_) => StepList { count: 0, start: 0 },
+        Number::Value { value, next } => StepList {
+            count: value,
+            start: next,
+        },
+    }
+}
+
 // 01's number of a step, 0 where it was read.
 pub fn step_refusal(step: StepAt) -> u32
     ensures { λ r. ⌜ r ≡ stepRefusal step ⌝ }
@@ -200,7 +220,7 @@ pub fn step_refusal(step: StepAt) -> u32
     match step {
         StepAt::FrameWrite { .. } => 0,
         StepAt::MultiFrameWrite { .. } => 0,
-        StepAt::Refused { cause, at: _ } => cause_number(cause),
+        StepAt::Refused { refusal, at: _ } => refusal_number(refusal),
     }
 }
 
@@ -211,6 +231,6 @@ pub fn step_offset(step: StepAt) -> usize
     match step {
         StepAt::FrameWrite { next, .. } => next,
         StepAt::MultiFrameWrite { next, .. } => next,
-        StepAt::Refused { cause: _, at } => at,
+        StepAt::Refused { refusal: _, at } => at,
     }
 }

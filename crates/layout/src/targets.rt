@@ -2,12 +2,11 @@
 use crate::FrameRange;
 use crate::range::owns;
 use crate::step::StepAt;
-use answers::layout::Cause;
+use answers::Refusal;
 use numbers::Number;
 use numbers::read_number;
-use parts::table::frame_count;
-use parts::table::frame_length;
-use parts::table::value_of;
+use parts::table::count_at;
+use parts::table::length_at;
 ghost use mathlib.Core.Path.{_≡_};
 ghost use Prim.Native.Nat.{_+_, _*_, _≤_};
 ghost use lib.ListN.{length};
@@ -20,16 +19,16 @@ fn judged_target(frames: u32, range: FrameRange, low: u64, target: Number) -> Nu
     ensures { λ r. ⌜ r ≡ judgedTarget frames (owns range) low target ⌝ }
 {
     match target {
-        Number::Refused(cause) => Number::Refused(cause),
+        Number::Refused(refusal) => Number::Refused(refusal),
         Number::Value { value, next } => {
             if (value as u64) < low {
-                return Number::Refused(Cause::NotRising);
+                return Number::Refused(Refusal::NotRising);
             }
             if frames <= value {
-                return Number::Refused(Cause::OutsidePart);
+                return Number::Refused(Refusal::OutsidePart);
             }
             if !owns(range, value as u64) {
-                return Number::Refused(Cause::OutsideRange);
+                return Number::Refused(Refusal::OutsideRange);
             }
             Number::Value {
                 value: value,
@@ -50,8 +49,8 @@ pub(crate) fn multi_targets(
     requires { ⌜ body + 4 * lengthAt device ≤ length (now layout) ⌝ }
     ensures { λ r. ⌜ r ≡ targetsRead (lengthAt device) count body (targetsAt (countAt device) (owns range) (now (layout .entry)) count 0 (body + 4 * lengthAt device)) ⌝ }
 {
-    let frames = value_of(frame_count(device));
-    let targets = body + 4 * value_of(frame_length(device)) as usize;
+    let frames = count_at(device);
+    let targets = body + 4 * length_at(device) as usize;
     let mut at: usize = targets;
     let mut low: u64 = 0;
     let mut left: u32 = count;
@@ -59,9 +58,9 @@ pub(crate) fn multi_targets(
         let read = read_number(layout, at);
         let target = judged_target(frames, range, low, read);
         match target {
-            Number::Refused(cause) => {
+            Number::Refused(refusal) => {
                 return StepAt::Refused {
-                    cause: cause,
+                    refusal: refusal,
                     at: at,
                 };
             }

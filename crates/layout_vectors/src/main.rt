@@ -1,7 +1,7 @@
 // Prints 01's worked examples of layouts, a way to each refusal, and what single numbers and steps answer, as the proved library
 // answers them.
-use answers::layout::verdict_number;
-use answers::layout::verdict_value;
+use answers::answer_number;
+use answers::answer_value;
 use layout::FrameRange;
 use layout::check;
 use layout::step::read_step;
@@ -22,9 +22,9 @@ fn decimal(n: u64) {
 
 // A label, then the length of the stream, or the refusal and its offset.
 fn print_check(label: &[u8], device: u32, range: FrameRange, layout: &[u8]) {
-    let verdict = check(device, range, layout);
-    let number = verdict_number(verdict);
-    let value = verdict_value(verdict);
+    let answer = check(device, range, layout);
+    let number = answer_number(answer);
+    let value = answer_value(answer);
     text(label);
     if number == 0 {
         text(b": ");

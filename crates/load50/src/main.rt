@@ -1,5 +1,5 @@
 // Loads standard input into a freshly powered XC3S50 and prints what came of it, in 01's four lines.
-use answers::Answer;
+use answers::LoadAnswer;
 use config::Phase;
 use libc::STDERR_FILENO;
 use libc::STDIN_FILENO;
@@ -12,7 +12,7 @@ const PIECES: u64 = 4294967296;
 // The record after the pieces read so far. failed: a read failed, and the input may go on.
 struct Session {
     record: Record,
-    answer: Answer,
+    answer: LoadAnswer,
     taken: u64,
     failed: bool,
 }
@@ -46,7 +46,7 @@ fn print_verdict(session: Session) {
     let record = session.record;
     let phase = record.phase;
     text(b"stop ");
-    number(answers::answer_number(answer) as u64);
+    number(answers::load_number(answer) as u64);
     text(b"taken ");
     number(session.taken);
     print_phase(phase);
@@ -69,7 +69,7 @@ fn load_input(start: Record, memory: &mut [u8]) -> Session {
         if got <= 0 {
             return Session {
                 record: record,
-                answer: Answer::Done,
+                answer: LoadAnswer::Done,
                 taken: taken,
                 failed: got < 0,
             };
@@ -79,7 +79,7 @@ fn load_input(start: Record, memory: &mut [u8]) -> Session {
         let next = loaded.record;
         let answer = loaded.answer;
         taken += loaded.taken;
-        if answers::answer_number(answer) != 0 {
+        if answers::load_number(answer) != 0 {
             return Session {
                 record: next,
                 answer: answer,
@@ -92,7 +92,7 @@ fn load_input(start: Record, memory: &mut [u8]) -> Session {
     }
     Session {
         record: record,
-        answer: Answer::Done,
+        answer: LoadAnswer::Done,
         taken: taken,
         failed: false,
     }

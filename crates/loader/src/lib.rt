@@ -3,7 +3,8 @@ mod fill; // fill.rt: words of an FDRI packet that only fill the buffer
 mod store; // store.rt: the buffer and the memory
 mod turn; // turn.rt: the next bytes of a piece
 
-use answers::Answer;
+use answers::LoadAnswer;
+use answers::Refusal;
 use config::Control;
 use config::Phase;
 use record::Record;
@@ -14,7 +15,7 @@ ghost use Rattle.loader.specs.Load.{answerOf, load};
 // The record after a load, the answer, and the bytes taken from this piece.
 pub struct Loaded {
     pub record: Record,
-    pub answer: Answer,
+    pub answer: LoadAnswer,
     pub taken: u64,
 }
 
@@ -24,19 +25,19 @@ struct Progress {
     taken: u64,
 }
 
-fn answer_of(phase: Phase) -> Answer
+fn answer_of(phase: Phase) -> LoadAnswer
     ensures { λ r. ⌜ r ≡ answerOf phase ⌝ }
 {
     match phase {
-        Phase::Hunting(_) => Answer::Done,
-        Phase::Header(_) => Answer::Done,
+        Phase::Hunting(_) => LoadAnswer::Done,
+        Phase::Header(_) => LoadAnswer::Done,
         Phase::Data {
             register: _,
             left: _,
             filled: _,
-        } => Answer::Done,
-        Phase::Crc => Answer::Done,
-        Phase::Stopped(stop) => Answer::Stopped(stop),
+        } => LoadAnswer::Done,
+        Phase::Crc => LoadAnswer::Done,
+        Phase::Stopped(stop) => LoadAnswer::Stopped(stop),
     }
 }
 
@@ -65,7 +66,7 @@ fn run(d: Record, memory: &mut [u8], bytes: &[u8]) -> Progress
     let mut phase = d.phase;
     let mut control = d.control;
     let mut frame = d.frame;
-    let length = parts::table::value_of(parts::table::frame_length(control.device));
+    let length = parts::table::length_at(control.device);
     let mut i: usize = 0;
     while i < bytes.len() {
         if is_stopped(phase) {
@@ -106,15 +107,15 @@ pub fn load(d: Record, memory: &mut [u8], bytes: &[u8]) -> Loaded
     if !record::consistent(d) {
         return Loaded {
             record: d,
-            answer: Answer::Inconsistent,
+            answer: LoadAnswer::Refused(Refusal::Inconsistent),
             taken: 0,
         };
     }
-    let wanted = parts::table::value_of(parts::table::memory_length(control.device));
+    let wanted = parts::table::memory_at(control.device);
     if memory.len() != wanted as usize {
         return Loaded {
             record: d,
-            answer: Answer::WrongMemory,
+            answer: LoadAnswer::Refused(Refusal::WrongMemory),
             taken: 0,
         };
     }

@@ -6,14 +6,14 @@ use mathlib.Core.List.{List, [], _∷_}
 use mathlib.Core.Bool.{Bool, true, false, cond, not, _&&_}
 use lib.Dec.{eqb, ltb}
 use lib.ListN.{drop}
-use Rattle.answers.specs.LayoutRefusals.{causeNumber}
-use Rattle.answers.specs.declared.layout.Cause.the-variants as Cause
+use Rattle.answers.specs.StopsAndRefusals.{refusalNumber}
+use Rattle.answers.specs.declared.Refusal.the-variants as Refusal
 use Rattle.numbers.specs.declared.Number.{Number}
 use Rattle.numbers.specs.declared.Number.the-variants as Number
 
 -- the last byte of a number; "shortest form only": it is 0 only where it is the first byte too
 unfoldable pub lastGroup : Bool → ℕ → ℕ → Number
-lastGroup first x next = cond (eqb x 0 && not first) (Number.Refused Cause.BadForm) (Number.Value x next)
+lastGroup first x next = cond (eqb x 0 && not first) (Number.Refused Refusal.BadForm) (Number.Value x next)
 
 -- "low group first": a group of seven bits before the number of the other groups
 unfoldable pub lowGroup : ℕ → Number → Number
@@ -22,8 +22,8 @@ lowGroup x (Number.Refused c) = Number.Refused c
 
 -- the bytes from offset i on, of which k may have the top bit set
 unfoldable pub groups : ℕ → Bool → ℕ → List ℕ → Number
-groups k first i [] = Number.Refused Cause.Missing
-groups zero first i (x ∷ xs) = cond (ltb 15 x) (Number.Refused Cause.BadForm) (lastGroup first x (i + 1))
+groups k first i [] = Number.Refused Refusal.Missing
+groups zero first i (x ∷ xs) = cond (ltb 15 x) (Number.Refused Refusal.BadForm) (lastGroup first x (i + 1))
 groups (suc k) first i (x ∷ xs) = cond (ltb x 128) (lastGroup first x (i + 1)) (lowGroup (x - 128) (groups k false (i + 1) xs))
 
 -- five bytes at most
@@ -33,7 +33,7 @@ numberAt b at = groups 4 true at (drop at b)
 -- 01's number of what was read, 0 where nothing is refused
 abbrev pub readRefusal : Number → ℕ
 readRefusal (Number.Value v next) = 0
-readRefusal (Number.Refused c) = causeNumber c
+readRefusal (Number.Refused c) = refusalNumber c
 
 -- the number that was read, 0 where it is refused
 abbrev pub readValue : Number → ℕ

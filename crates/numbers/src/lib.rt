@@ -1,6 +1,6 @@
 // The numbers of a layout: groups of seven bits, low group first, in the shortest form.
-use answers::layout::Cause;
-use answers::layout::cause_number;
+use answers::Refusal;
+use answers::refusal_number;
 ghost use mathlib.Core.Path.{_≡_};
 ghost use Prim.Native.Nat.{_+_, _*_, _^_, _<_};
 ghost use Rattle.numbers.specs.Number.{lastGroup, numberAt, readRefusal, readValue};
@@ -9,7 +9,7 @@ ghost use Rattle.numbers.specs.Inner.Groups.{scaled};
 // A number that was read, with the offset after it, or why there is none.
 pub enum Number {
     Value { value: u32, next: usize },
-    Refused(Cause),
+    Refused(Refusal),
 }
 
 // The weight of a fifth group, 128 to the 4th.
@@ -22,7 +22,7 @@ fn last_group(first: bool, x: u8, low: u32, weight: u32, next: usize) -> Number
 {
     if x == 0 {
         if !first {
-            return Number::Refused(Cause::BadForm);
+            return Number::Refused(Refusal::BadForm);
         }
     }
     Number::Value {
@@ -42,7 +42,7 @@ pub fn read_number(bytes: &[u8], at: usize) -> Number
         let x = bytes[i];
         if weight == FIFTH_WEIGHT {
             if 15 < x {
-                return Number::Refused(Cause::BadForm);
+                return Number::Refused(Refusal::BadForm);
             }
         }
         if x < 128 {
@@ -52,7 +52,7 @@ pub fn read_number(bytes: &[u8], at: usize) -> Number
         weight *= 128;
         i += 1;
     }
-    Number::Refused(Cause::Missing)
+    Number::Refused(Refusal::Missing)
 }
 
 // 01's number of what was read, 0 where nothing is refused.
@@ -61,7 +61,7 @@ pub fn read_refusal(number: Number) -> u32
 {
     match number {
         Number::Value { value: _, next: _ } => 0,
-        Number::Refused(cause) => cause_number(cause),
+        Number::Refused(refusal) => refusal_number(refusal),
     }
 }
 

@@ -4,13 +4,16 @@ use Prim.Native.Nat.{ℕ, _+_, _-_, _*_, _/_, _%_, _^_}
 use mathlib.Core.List.{List, [], _∷_}
 use mathlib.Core.Bool.{Bool, cond, _&&_}
 use lib.Dec.{eqb, ltb}
+use Rattle.answers.specs.StopsAndRefusals.{refusalNumber}
+use Rattle.answers.specs.AnswerNumbers.{answerValue}
+use Rattle.answers.specs.declared.Refusal.the-variants as Refusal
+use Rattle.answers.specs.declared.Answer.{Answer}
+use Rattle.answers.specs.declared.Answer.the-variants as Answer
 use Rattle.parts.specs.Table.{partOf, frameCount}
 use Rattle.parts.specs.Columns.{Column, columns}
 use Rattle.parts.specs.declared.table.PartAnswer.{PartAnswer}
 use Rattle.parts.specs.declared.table.PartAnswer.the-variants as PartAnswer
 use Rattle.parts.specs.declared.frame.AddressFields.{AddressFields}
-use Rattle.parts.specs.declared.frame.AddressAnswer.{AddressAnswer}
-use Rattle.parts.specs.declared.frame.AddressAnswer.the-variants as AddressAnswer
 use Rattle.parts.specs.declared.frame.NumberAnswer.{NumberAnswer}
 use Rattle.parts.specs.declared.frame.NumberAnswer.the-variants as NumberAnswer
 
@@ -36,9 +39,9 @@ abbrev pub cleared : ℕ → ℕ
 cleared a = address (block a) (major a) (minor a)
 
 -- the address of frame n, counted from the first of the columns
-unfoldable pub addressIn : List Column → ℕ → AddressAnswer
-addressIn [] n = AddressAnswer.OutsidePart
-addressIn (c ∷ cs) n = cond (ltb n (c .minors)) (AddressAnswer.Address (address (c .block) (c .major) n)) (addressIn cs (n - c .minors))
+unfoldable pub addressIn : List Column → ℕ → Answer
+addressIn [] n = Answer.Refused Refusal.OutsidePart 0
+addressIn (c ∷ cs) n = cond (ltb n (c .minors)) (Answer.Done (address (c .block) (c .major) n)) (addressIn cs (n - c .minors))
 
 -- block b, major m, minor k is a frame of the column
 unfoldable pub names : Column → ℕ → ℕ → ℕ → Bool
@@ -50,34 +53,27 @@ numberIn [] first b m k = NumberAnswer.NoFrame
 numberIn (c ∷ cs) first b m k = cond (names c b m k) (NumberAnswer.Number (first + k)) (numberIn cs (first + c .minors) b m k)
 
 -- 01: "Lookups refuse 21, then 34 for a number not under F"
-unfoldable pub addressFor : PartAnswer → ℕ → AddressAnswer
-addressFor (PartAnswer.Known p) n = cond (ltb n (frameCount p)) (addressIn (columns p) n) AddressAnswer.OutsidePart
-addressFor PartAnswer.UnknownDevice n = AddressAnswer.UnknownDevice
+unfoldable pub addressFor : PartAnswer → ℕ → Answer
+addressFor (PartAnswer.Known p) n = cond (ltb n (frameCount p)) (addressIn (columns p) n) (Answer.Refused Refusal.OutsidePart 0)
+addressFor (PartAnswer.Refused c) n = Answer.Refused c 0
 
-abbrev pub frameAddress : ℕ → ℕ → AddressAnswer
+abbrev pub frameAddress : ℕ → ℕ → Answer
 frameAddress d n = addressFor (partOf d) n
+
+-- the frame address, 0 where it is refused
+abbrev pub addressAt : ℕ → ℕ → ℕ
+addressAt d n = answerValue (frameAddress d n)
 
 -- 01: "Lookups refuse 21"; "an address of no frame gives none"
 unfoldable pub numberFor : PartAnswer → ℕ → NumberAnswer
 numberFor (PartAnswer.Known p) a = numberIn (columns p) 0 (block a) (major a) (minor a)
-numberFor PartAnswer.UnknownDevice a = NumberAnswer.UnknownDevice
+numberFor (PartAnswer.Refused c) a = NumberAnswer.Refused c
 
 abbrev pub frameNumber : ℕ → ℕ → NumberAnswer
 frameNumber d a = numberFor (partOf d) a
 
--- 01's number of an answer, 0 where nothing is refused
-abbrev pub addressRefusal : AddressAnswer → ℕ
-addressRefusal (AddressAnswer.Address a) = 0
-addressRefusal AddressAnswer.UnknownDevice = 21
-addressRefusal AddressAnswer.OutsidePart = 34
-
+-- the number of an answer, 0 where nothing is refused: none is an answer
 abbrev pub numberRefusal : NumberAnswer → ℕ
 numberRefusal (NumberAnswer.Number n) = 0
 numberRefusal NumberAnswer.NoFrame = 0
-numberRefusal NumberAnswer.UnknownDevice = 21
-
--- the frame address that an answer tells, 0 where it is refused
-unfoldable pub addressTold : AddressAnswer → ℕ
-addressTold (AddressAnswer.Address a) = a
-addressTold AddressAnswer.UnknownDevice = 0
-addressTold AddressAnswer.OutsidePart = 0
+numberRefusal (NumberAnswer.Refused c) = refusalNumber c

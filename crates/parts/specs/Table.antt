@@ -5,11 +5,11 @@ use mathlib.Core.List.{List, [], _∷_}
 use mathlib.Core.Bool.{cond}
 use lib.Dec.{ltb}
 use lib.ListN.{getD}
+use Rattle.answers.specs.StopsAndRefusals.{refusalNumber}
+use Rattle.answers.specs.declared.Refusal.the-variants as Refusal
 use Rattle.parts.specs.declared.table.Part.{Part}
 use Rattle.parts.specs.declared.table.PartAnswer.{PartAnswer}
 use Rattle.parts.specs.declared.table.PartAnswer.the-variants as PartAnswer
-use Rattle.parts.specs.declared.table.Figure.{Figure}
-use Rattle.parts.specs.declared.table.Figure.the-variants as Figure
 
 abbrev pub part : ℕ → ℕ → ℕ → ℕ → Part
 part i r c b = record { idcode = i; rows = r; columns = c; «ram_columns» = b }
@@ -29,29 +29,20 @@ parts =
 
 -- 01, refusal 21: device number above 7
 unfoldable pub partOf : ℕ → PartAnswer
-partOf d = cond (ltb d 8) (PartAnswer.Known (getD parts d (part 0 0 0 0))) PartAnswer.UnknownDevice
+partOf d = cond (ltb d 8) (PartAnswer.Known (getD parts d (part 0 0 0 0))) (PartAnswer.Refused Refusal.UnknownDevice)
 
--- a figure of a part, for the part that a device number names
-unfoldable pub figureOf : (Part → ℕ) → PartAnswer → Figure
-figureOf f (PartAnswer.Known p) = Figure.Value (f p)
-figureOf f PartAnswer.UnknownDevice = Figure.UnknownDevice
-
-abbrev pub figure : (Part → ℕ) → ℕ → Figure
-figure f d = figureOf f (partOf d)
-
--- 01's number of an answer, 0 where nothing is refused
+-- the number of an answer, 0 where there is a part
 abbrev pub partRefusal : PartAnswer → ℕ
 partRefusal (PartAnswer.Known p) = 0
-partRefusal PartAnswer.UnknownDevice = 21
+partRefusal (PartAnswer.Refused c) = refusalNumber c
 
-abbrev pub figureRefusal : Figure → ℕ
-figureRefusal (Figure.Value v) = 0
-figureRefusal Figure.UnknownDevice = 21
+-- a figure of a part, for the part that a device number names; 0 where it names none
+unfoldable pub figureOf : (Part → ℕ) → PartAnswer → ℕ
+figureOf f (PartAnswer.Known p) = f p
+figureOf f (PartAnswer.Refused c) = 0
 
--- the number that a figure tells, 0 where it is refused
-unfoldable pub valueOf : Figure → ℕ
-valueOf (Figure.Value v) = v
-valueOf Figure.UnknownDevice = 0
+abbrev pub figure : (Part → ℕ) → ℕ → ℕ
+figure f d = figureOf f (partOf d)
 
 -- 001, Table 8
 unfoldable pub idcodeOf : Part → ℕ
@@ -69,19 +60,19 @@ frameCount p = 45 + 19 * p .columns + 95 * p .«ram_columns»
 unfoldable pub memoryLength : Part → ℕ
 memoryLength p = 4 * frameLength p * frameCount p
 
--- ---- the figures of a device number; 0 where it names no part
+-- ---- the figures of a device number
 
 abbrev pub idcodeAt : ℕ → ℕ
-idcodeAt d = valueOf (figure idcodeOf d)
+idcodeAt d = figure idcodeOf d
 
 -- L
 abbrev pub lengthAt : ℕ → ℕ
-lengthAt d = valueOf (figure frameLength d)
+lengthAt d = figure frameLength d
 
 -- F
 abbrev pub countAt : ℕ → ℕ
-countAt d = valueOf (figure frameCount d)
+countAt d = figure frameCount d
 
 -- 4·L·F
 abbrev pub memoryAt : ℕ → ℕ
-memoryAt d = valueOf (figure memoryLength d)
+memoryAt d = figure memoryLength d

@@ -3,27 +3,24 @@
 use crate::table::Part;
 use crate::table::PartAnswer;
 use crate::table::part_of;
+use answers::Answer;
+use answers::Refusal;
+use answers::answer_value;
+use answers::refusal_number;
 ghost use mathlib.Core.Path.{_≡_};
 ghost use mathlib.Core.List.{List, _++_};
 ghost use Prim.Native.Nat.{_+_, _*_, _<_, _≤_};
 ghost use lib.ListN.{getD};
 ghost use Rattle.parts.specs.Laws.PrintedFigures.{Limits};
 ghost use Rattle.parts.specs.Columns.{Column, run, runs, columns, runColumns};
-ghost use Rattle.parts.specs.FrameAddress.{address, addressFields, addressIn, numberIn, frameAddress, frameNumber, addressRefusal, numberRefusal};
+ghost use Rattle.parts.specs.FrameAddress.{address, addressFields, addressIn, numberIn, frameAddress, frameNumber, addressAt, numberRefusal};
 ghost use Rattle.parts.specs.Inner.ColumnRuns.{FieldsFit, resumed, inRun};
-
-// The frame address of a frame number.
-pub enum AddressAnswer {
-    Address(u32),
-    UnknownDevice,
-    OutsidePart,
-}
 
 // The frame number of a frame address.
 pub enum NumberAnswer {
     Number(u32),
     NoFrame,
-    UnknownDevice,
+    Refused(Refusal),
 }
 
 // The fields of a frame address.
@@ -117,7 +114,7 @@ fn search_run(run: Run, number: u32) -> Search
 }
 
 // Looks for a number run by run.
-fn address_in(part: Part, number: u32) -> AddressAnswer
+fn address_in(part: Part, number: u32) -> Answer
     requires { ⌜ Limits part ⌝ }
     ensures { λ r. ⌜ r ≡ addressIn (columns part) number ⌝ }
 {
@@ -127,7 +124,7 @@ fn address_in(part: Part, number: u32) -> AddressAnswer
         let s = search_run(run_at(part, i), left);
         match s {
             Search::Found(a) => {
-                return AddressAnswer::Address(a);
+                return Answer::Done(a as u64);
             }
             Search::Past(n) => {
                 left = n;
@@ -135,7 +132,10 @@ fn address_in(part: Part, number: u32) -> AddressAnswer
         }
         i += 1;
     }
-    AddressAnswer::OutsidePart
+    Answer::Refused {
+        refusal: Refusal::OutsidePart,
+        told: 0,
+    }
 }
 
 // The frame is in the run.
@@ -184,15 +184,26 @@ pub fn address_fields(address: u32) -> AddressFields
     }
 }
 
-// The frame address of a frame number.
-pub fn frame_address(device: u32, number: u32) -> AddressAnswer
+// The frame address of a frame number: 21, then 34.
+pub fn frame_address(device: u32, number: u32) -> Answer
     ensures { λ r. ⌜ r ≡ frameAddress device number ⌝ }
 {
     let p = part_of(device);
     match p {
         PartAnswer::Known(part) => address_in(part, number),
-        PartAnswer::UnknownDevice => AddressAnswer::UnknownDevice,
+        PartAnswer::Refused(refusal) => Answer::Refused {
+            refusal: refusal,
+            told: 0,
+        },
     }
+}
+
+// The frame address of a frame number, 0 where it is refused.
+pub fn address_at(device: u32, number: u32) -> u32
+    ensures { λ r. ⌜ r ≡ addressAt device number ⌝ }
+{
+    let answer = frame_address(device, number);
+    answer_value(answer) as u32
 }
 
 // The frame number of a frame address.
@@ -205,28 +216,17 @@ pub fn frame_number(device: u32, address: u32) -> NumberAnswer
             let at = address_fields(address);
             number_in(part, at.block, at.major, at.minor)
         }
-        PartAnswer::UnknownDevice => NumberAnswer::UnknownDevice,
+        PartAnswer::Refused(refusal) => NumberAnswer::Refused(refusal),
     }
 }
 
-// 01's number of an answer, 0 where nothing is refused.
-pub fn address_refusal(answer: AddressAnswer) -> u32
-    ensures { λ r. ⌜ r ≡ addressRefusal answer ⌝ }
-{
-    match answer {
-        AddressAnswer::Address(_) => 0,
-        AddressAnswer::UnknownDevice => 21,
-        AddressAnswer::OutsidePart => 34,
-    }
-}
-
-// 01's number of an answer, 0 where nothing is refused: an address of no frame is an answer.
+// The number of an answer, 0 where nothing is refused: an address of no frame is an answer.
 pub fn number_refusal(answer: NumberAnswer) -> u32
     ensures { λ r. ⌜ r ≡ numberRefusal answer ⌝ }
 {
     match answer {
         NumberAnswer::Number(_) => 0,
         NumberAnswer::NoFrame => 0,
-        NumberAnswer::UnknownDevice => 21,
+        NumberAnswer::Refused(refusal) => refusal_number(refusal),
     }
 }

@@ -1,6 +1,8 @@
 // The table of the eight parts, and what follows from it by device number.
+use answers::Refusal;
+use answers::refusal_number;
 ghost use mathlib.Core.Path.{_≡_};
-ghost use Rattle.parts.specs.Table.{partOf, figure, idcodeOf, frameLength, frameCount, memoryLength, partRefusal, figureRefusal, valueOf};
+ghost use Rattle.parts.specs.Table.{partOf, partRefusal, frameLength, frameCount, idcodeAt, lengthAt, countAt, memoryAt};
 ghost use Rattle.parts.specs.Laws.PrintedFigures.{Limits};
 
 // What tells one part from another: R, C and B of 01 are rows, columns and ram_columns.
@@ -14,13 +16,7 @@ pub struct Part {
 // The part that a device number names.
 pub enum PartAnswer {
     Known(Part),
-    UnknownDevice,
-}
-
-// A figure of the part that a device number names.
-pub enum Figure {
-    Value(u32),
-    UnknownDevice,
+    Refused(Refusal),
 }
 
 const PARTS: [Part; 8] = [
@@ -83,18 +79,17 @@ pub fn part_of(device: u32) -> PartAnswer
         let table = PARTS;
         PartAnswer::Known(table[i])
     } else {
-        PartAnswer::UnknownDevice
+        PartAnswer::Refused(Refusal::UnknownDevice)
     }
 }
 
-// The word that an IDCODE write must hold.
-pub fn idcode(device: u32) -> Figure
-    ensures { λ r. ⌜ r ≡ figure idcodeOf device ⌝ }
+// The number of an answer, 0 where there is a part.
+pub fn part_refusal(answer: PartAnswer) -> u32
+    ensures { λ r. ⌜ r ≡ partRefusal answer ⌝ }
 {
-    let p = part_of(device);
-    match p {
-        PartAnswer::Known(part) => Figure::Value(part.idcode),
-        PartAnswer::UnknownDevice => Figure::UnknownDevice,
+    match answer {
+        PartAnswer::Known(_) => 0,
+        PartAnswer::Refused(refusal) => refusal_number(refusal),
     }
 }
 
@@ -114,65 +109,46 @@ fn count_of(part: Part) -> u32
     45 + 19 * part.columns + 95 * part.ram_columns
 }
 
-// The words of a frame.
-pub fn frame_length(device: u32) -> Figure
-    ensures { λ r. ⌜ r ≡ figure frameLength device ⌝ }
+// The word that an IDCODE write must hold. This and the figures below are 0 where the number names no part.
+pub fn idcode_at(device: u32) -> u32
+    ensures { λ r. ⌜ r ≡ idcodeAt device ⌝ }
 {
     let p = part_of(device);
     match p {
-        PartAnswer::Known(part) => Figure::Value(length_of(part)),
-        PartAnswer::UnknownDevice => Figure::UnknownDevice,
+        PartAnswer::Known(part) => part.idcode,
+        PartAnswer::Refused(_) => 0,
+    }
+}
+
+// The words of a frame.
+pub fn length_at(device: u32) -> u32
+    ensures { λ r. ⌜ r ≡ lengthAt device ⌝ }
+{
+    let p = part_of(device);
+    match p {
+        PartAnswer::Known(part) => length_of(part),
+        PartAnswer::Refused(_) => 0,
     }
 }
 
 // The frames of the part.
-pub fn frame_count(device: u32) -> Figure
-    ensures { λ r. ⌜ r ≡ figure frameCount device ⌝ }
+pub fn count_at(device: u32) -> u32
+    ensures { λ r. ⌜ r ≡ countAt device ⌝ }
 {
     let p = part_of(device);
     match p {
-        PartAnswer::Known(part) => Figure::Value(count_of(part)),
-        PartAnswer::UnknownDevice => Figure::UnknownDevice,
+        PartAnswer::Known(part) => count_of(part),
+        PartAnswer::Refused(_) => 0,
     }
 }
 
 // The bytes of all frames.
-pub fn memory_length(device: u32) -> Figure
-    ensures { λ r. ⌜ r ≡ figure memoryLength device ⌝ }
+pub fn memory_at(device: u32) -> u32
+    ensures { λ r. ⌜ r ≡ memoryAt device ⌝ }
 {
     let p = part_of(device);
     match p {
-        PartAnswer::Known(part) => Figure::Value(4 * length_of(part) * count_of(part)),
-        PartAnswer::UnknownDevice => Figure::UnknownDevice,
-    }
-}
-
-// 01's number of an answer, 0 where nothing is refused.
-pub fn part_refusal(answer: PartAnswer) -> u32
-    ensures { λ r. ⌜ r ≡ partRefusal answer ⌝ }
-{
-    match answer {
-        PartAnswer::Known(_) => 0,
-        PartAnswer::UnknownDevice => 21,
-    }
-}
-
-// 01's number of an answer, 0 where nothing is refused.
-pub fn figure_refusal(answer: Figure) -> u32
-    ensures { λ r. ⌜ r ≡ figureRefusal answer ⌝ }
-{
-    match answer {
-        Figure::Value(_) => 0,
-        Figure::UnknownDevice => 21,
-    }
-}
-
-// The number that a figure tells, 0 where it is refused.
-pub fn value_of(answer: Figure) -> u32
-    ensures { λ r. ⌜ r ≡ valueOf answer ⌝ }
-{
-    match answer {
-        Figure::Value(v) => v,
-        Figure::UnknownDevice => 0,
+        PartAnswer::Known(part) => 4 * length_of(part) * count_of(part),
+        PartAnswer::Refused(_) => 0,
     }
 }

@@ -6,10 +6,8 @@ use mathlib.Core.Bool.{true, false}
 use Prim.Native.Nat.{ℕ}
 use Rattle.parts.specs.Table.{lengthAt}
 use Rattle.parts.specs.FrameMemory.{frameOf}
-use Rattle.answers.specs.declared.change.Change.{Change}
-use Rattle.answers.specs.declared.change.Change.the-variants as Change
-use Rattle.answers.specs.declared.layout.Verdict.{Verdict}
-use Rattle.answers.specs.declared.layout.Verdict.the-variants as Verdict
+use Rattle.answers.specs.declared.Answer.{Answer}
+use Rattle.answers.specs.declared.Answer.the-variants as Answer
 use Rattle.config.specs.declared.PartialWord.{PartialWord}
 use Rattle.config.specs.declared.PartialWord.the-variants as PartialWord
 use Rattle.config.specs.declared.Phase.{Phase}
@@ -30,17 +28,7 @@ pub record Effect (d : ℕ) (r : FrameRange) (b m : List ℕ) (e : Record) (k : 
   pub memory : k ≡ machine d b m
   pub outside : (n : ℕ) → owns r n ≡ false → frameOf (lengthAt d) n k ≡ frameOf (lengthAt d) n m
 
--- by the verdict: accepted, the effect; refused, record and memory as they were
-abbrev PromisedBy : ℕ → FrameRange → List ℕ → List ℕ → Record → Verdict → Record → List ℕ → Type 0
-PromisedBy d r b m e₀ (Verdict.Accepted n) e k = Effect d r b m e k
-PromisedBy d r b m e₀ Verdict.UnknownDevice e k = (e ≡ e₀) × (k ≡ m)
-PromisedBy d r b m e₀ Verdict.WrongRange e k = (e ≡ e₀) × (k ≡ m)
-PromisedBy d r b m e₀ Verdict.WrongMemory e k = (e ≡ e₀) × (k ≡ m)
-PromisedBy d r b m e₀ (Verdict.ShortOutput n) e k = (e ≡ e₀) × (k ≡ m)
-PromisedBy d r b m e₀ (Verdict.Refused c at) e k = (e ≡ e₀) × (k ≡ m)
-
--- of record e₀ and memory m, by the answer, with record e and memory k afterwards
-abbrev pub Promised : FrameRange → List ℕ → Record → List ℕ → Change → Record → List ℕ → Type 0
-Promised r b e₀ m Change.Inconsistent e k = (e ≡ e₀) × (k ≡ m)
-Promised r b e₀ m Change.NotHunting e k = (e ≡ e₀) × (k ≡ m)
-Promised r b e₀ m (Change.Judged v) e k = PromisedBy (e₀ .control .device) r b m e₀ v e k
+-- of record e₀ and memory m, by the answer, with record e and memory k afterwards: done, the effect; refused, both as they were
+abbrev pub Promised : FrameRange → List ℕ → Record → List ℕ → Answer → Record → List ℕ → Type 0
+Promised r b e₀ m (Answer.Done n) e k = Effect (e₀ .control .device) r b m e k
+Promised r b e₀ m (Answer.Refused c told) e k = (e ≡ e₀) × (k ≡ m)

@@ -7,10 +7,9 @@ use mathlib.Core.Bool.{Bool, true, false, cond}
 use lib.Dec.{eqb}
 use lib.ListN.{length}
 use Rattle.parts.specs.Table.{memoryAt}
-use Rattle.answers.specs.declared.change.Change.{Change}
-use Rattle.answers.specs.declared.change.Change.the-variants as Change
-use Rattle.answers.specs.declared.layout.Verdict.{Verdict}
-use Rattle.answers.specs.declared.layout.Verdict.the-variants as Verdict
+use Rattle.answers.specs.declared.Refusal.the-variants as Refusal
+use Rattle.answers.specs.declared.Answer.{Answer}
+use Rattle.answers.specs.declared.Answer.the-variants as Answer
 use Rattle.config.specs.declared.Phase.{Phase}
 use Rattle.config.specs.declared.Phase.the-variants as Phase
 use Rattle.record.specs.Consistency.{consistent}
@@ -32,32 +31,28 @@ pub record Reconfigured : Type 0 where
   pub «record» : Record
   pub memory : List ℕ
   pub output : List ℕ
-  pub change : Change
+  pub answer : Answer
 
 module _ (e : Record) (m : List ℕ) (r : FrameRange) (b out : List ℕ) where
   -- a refusal changes nothing
-  abbrev pub unchanged : Change → Reconfigured
-  unchanged a = record { «record» = e; memory = m; output = out; change = a }
+  abbrev pub unchanged : Answer → Reconfigured
+  unchanged a = record { «record» = e; memory = m; output = out; answer = a }
 
   -- what the compiler's verdict leads to: the record is what the load leaves, the memory what the reference machine makes of it
-  unfoldable pub reconfiguredAfter : Verdict → Reconfigured
-  reconfiguredAfter (Verdict.Accepted n) = record {
+  unfoldable pub reconfiguredAfter : Answer → Reconfigured
+  reconfiguredAfter (Answer.Done n) = record {
     «record» = load e m (streamFor (e .control .device) r b) .«record»;
     memory = machine (e .control .device) b m;
     output = overwritten (streamFor (e .control .device) r b) out;
-    change = Change.Judged (Verdict.Accepted n);
+    answer = Answer.Done n;
   }
-  reconfiguredAfter Verdict.UnknownDevice = unchanged (Change.Judged Verdict.UnknownDevice)
-  reconfiguredAfter Verdict.WrongRange = unchanged (Change.Judged Verdict.WrongRange)
-  reconfiguredAfter Verdict.WrongMemory = unchanged (Change.Judged Verdict.WrongMemory)
-  reconfiguredAfter (Verdict.ShortOutput n) = unchanged (Change.Judged (Verdict.ShortOutput n))
-  reconfiguredAfter (Verdict.Refused c at) = unchanged (Change.Judged (Verdict.Refused c at))
+  reconfiguredAfter (Answer.Refused c at) = unchanged (Answer.Refused c at)
 
   -- 22, 23, then 24, then the compiler's
   unfoldable pub reconfigured : Reconfigured
   reconfigured =
       cond (consistent (e .phase) (e .control))
       (cond (eqb (length m) (memoryAt (e .control .device)))
-      (cond (isHunting (e .phase)) (reconfiguredAfter (compiled (e .control .device) r b out .verdict)) (unchanged Change.NotHunting))
-      (unchanged (Change.Judged Verdict.WrongMemory)))
-      (unchanged Change.Inconsistent)
+      (cond (isHunting (e .phase)) (reconfiguredAfter (compiled (e .control .device) r b out .answer)) (unchanged (Answer.Refused Refusal.NotHunting 0)))
+      (unchanged (Answer.Refused Refusal.WrongMemory 0)))
+      (unchanged (Answer.Refused Refusal.Inconsistent 0))

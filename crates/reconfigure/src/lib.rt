@@ -1,26 +1,41 @@
 // Compile, then load: what a check of a layout against a desk's part calls.
-use answers::change::Change;
-use answers::layout::Verdict;
+use answers::Answer;
+use answers::Refusal;
 use config::Phase;
 use layout::FrameRange;
 use record::Record;
 ghost use mathlib.Core.Path.{_≡_};
+ghost use Rattle.answers.specs.declared.Answer.the-variants as Answer;
 ghost use Rattle.reconfigure.specs.Reconfigured.{isHunting, reconfigured};
 ghost use Rattle.reconfigure.specs.Promise.{Promised};
 
 // The record afterwards, and the answer.
 pub struct Reconfigured {
     pub record: Record,
-    pub change: Change,
+    pub answer: Answer,
 }
 
-fn answered(record: Record, change: Change) -> Reconfigured
+fn answered(record: Record, answer: Answer) -> Reconfigured
     ensures { λ r. ⌜ r .«record» ≡ «record» ⌝ }
-    ensures { λ r. ⌜ r .change ≡ change ⌝ }
+    ensures { λ r. ⌜ r .answer ≡ answer ⌝ }
 {
     Reconfigured {
         record: record,
-        change: change,
+        answer: answer,
+    }
+}
+
+// Refused with 0 told, the record as it was.
+fn refused(record: Record, refusal: Refusal) -> Reconfigured
+    ensures { λ r. ⌜ r .«record» ≡ «record» ⌝ }
+    ensures { λ r. ⌜ r .answer ≡ Answer.Refused refusal 0 ⌝ }
+{
+    Reconfigured {
+        record: record,
+        answer: Answer::Refused {
+            refusal: refusal,
+            told: 0,
+        },
     }
 }
 
@@ -49,30 +64,30 @@ pub fn reconfigure(
     layout: &[u8],
     output: &mut [u8],
 ) -> Reconfigured
-    ensures { λ r. ⌜ r .change ≡ reconfigured «record» (now (memory .entry)) range (now (layout .entry)) (now (output .entry)) .change ⌝ }
+    ensures { λ r. ⌜ r .answer ≡ reconfigured «record» (now (memory .entry)) range (now (layout .entry)) (now (output .entry)) .answer ⌝ }
     ensures { λ r. ⌜ r .«record» ≡ reconfigured «record» (now (memory .entry)) range (now (layout .entry)) (now (output .entry)) .«record» ⌝ }
     ensures { λ _. ⌜ now (memory .exit) ≡ reconfigured «record» (now (memory .entry)) range (now (layout .entry)) (now (output .entry)) .memory ⌝ }
     ensures { λ _. ⌜ now (output .exit) ≡ reconfigured «record» (now (memory .entry)) range (now (layout .entry)) (now (output .entry)) .output ⌝ }
-    ensures { λ r. ⌜ Promised range (now (layout .entry)) «record» (now (memory .entry)) (r .change) (r .«record») (now (memory .exit)) ⌝ }
+    ensures { λ r. ⌜ Promised range (now (layout .entry)) «record» (now (memory .entry)) (r .answer) (r .«record») (now (memory .exit)) ⌝ }
 {
     let phase = record.phase;
     let control = record.control;
     let number = control.device;
     if !record::consistent(record) {
-        return answered(record, Change::Inconsistent);
+        return refused(record, Refusal::Inconsistent);
     }
-    if memory.len() != parts::table::value_of(parts::table::memory_length(number)) as usize {
-        return answered(record, Change::Judged(Verdict::WrongMemory));
+    if memory.len() != parts::table::memory_at(number) as usize {
+        return refused(record, Refusal::WrongMemory);
     }
     if !is_hunting(phase) {
-        return answered(record, Change::NotHunting);
+        return refused(record, Refusal::NotHunting);
     }
-    let verdict = compiler::compile(number, range, layout, output);
-    if let Verdict::Accepted(length) = verdict {
+    let answer = compiler::compile(number, range, layout, output);
+    if let Answer::Done(length) = answer {
         let end = length as usize;
         let loaded = loader::load(record, memory, &output[..end]);
         let after = loaded.record;
-        return answered(after, Change::Judged(verdict));
+        return answered(after, answer);
     }
-    answered(record, Change::Judged(verdict))
+    answered(record, answer)
 }

@@ -5,11 +5,13 @@ use mathlib.Core.List.{List}
 use mathlib.Core.Bool.{false, cond}
 use lib.Dec.{eqb}
 use lib.ListN.{length, replicate}
-use Rattle.parts.specs.Table.{figure, memoryLength}
-use Rattle.parts.specs.declared.table.Figure.{Figure}
-use Rattle.parts.specs.declared.table.Figure.the-variants as Figure
-use Rattle.answers.specs.declared.Answer.{Answer}
-use Rattle.answers.specs.declared.Answer.the-variants as Answer
+use Rattle.parts.specs.Table.{partOf, memoryAt}
+use Rattle.parts.specs.declared.table.PartAnswer.{PartAnswer}
+use Rattle.parts.specs.declared.table.PartAnswer.the-variants as PartAnswer
+use Rattle.answers.specs.declared.Refusal.the-variants as Refusal
+use Rattle.answers.specs.declared.Refusal.{Refusal}
+use Rattle.answers.specs.declared.LoadAnswer.{LoadAnswer}
+use Rattle.answers.specs.declared.LoadAnswer.the-variants as LoadAnswer
 use Rattle.config.specs.declared.PartialWord.the-variants as PartialWord
 use Rattle.config.specs.declared.Current.the-variants as Current
 use Rattle.config.specs.declared.Control.{Control}
@@ -20,7 +22,7 @@ use Rattle.record.specs.declared.Record.{Record}
 pub record Outcome : Type 0 where
   pub «record» : Record
   pub memory : List ℕ
-  pub answer : Answer
+  pub answer : LoadAnswer
   pub taken : ℕ
 
 -- 01: "registers and frame words zero, all flags clear, current frame 0, hunting"
@@ -45,12 +47,16 @@ freshControl d = record {
 unfoldable pub fresh : ℕ → Record
 fresh d = record { phase = Phase.Hunting PartialWord.Zero; control = freshControl d; frame = replicate 213 0 }
 
--- 01: "order 21 or 22, then 23"; a refusal hands back the fresh record of device 0 and changes no memory; "memory, registers and frame words zero"
-unfoldable pub powered : Figure → ℕ → List ℕ → Outcome
-powered (Figure.Value n) d m =
-    cond (eqb (length m) n) (record { «record» = fresh d; memory = replicate n 0; answer = Answer.Done; taken = 0 })
-    (record { «record» = fresh 0; memory = m; answer = Answer.WrongMemory; taken = 0 })
-powered Figure.UnknownDevice d m = record { «record» = fresh 0; memory = m; answer = Answer.UnknownDevice; taken = 0 }
+-- 01: "Refusals 21 to 23 change no memory" and hand back, at power-on, "the fresh record of device 0"
+abbrev pub notPowered : Refusal → List ℕ → Outcome
+notPowered c m = record { «record» = fresh 0; memory = m; answer = LoadAnswer.Refused c; taken = 0 }
+
+-- 01: "order 21 or 22, then 23"; "memory, registers and frame words zero"
+unfoldable pub powered : PartAnswer → ℕ → List ℕ → Outcome
+powered (PartAnswer.Known p) d m =
+    cond (eqb (length m) (memoryAt d)) (record { «record» = fresh d; memory = replicate (memoryAt d) 0; answer = LoadAnswer.Done; taken = 0 })
+    (notPowered Refusal.WrongMemory m)
+powered (PartAnswer.Refused c) d m = notPowered c m
 
 abbrev pub powerOn : ℕ → List ℕ → Outcome
-powerOn d m = powered (figure memoryLength d) d m
+powerOn d m = powered (partOf d) d m

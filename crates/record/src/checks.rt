@@ -2,9 +2,8 @@
 use config::Control;
 use config::Current;
 use config::Phase;
-use parts::table::frame_count;
-use parts::table::frame_length;
-use parts::table::value_of;
+use parts::table::count_at;
+use parts::table::length_at;
 use registers::Register;
 use registers::is_fdri;
 use registers::is_mfwr;
@@ -18,7 +17,7 @@ pub(crate) fn current_fits(device: u32, current: Current) -> bool
     ensures { λ r. ⌜ r ≡ currentFits device current ⌝ }
 {
     match current {
-        Current::Frame(n) => n < value_of(frame_count(device)),
+        Current::Frame(n) => n < count_at(device),
         Current::NoFrame => true,
     }
 }
@@ -27,7 +26,7 @@ fn data_fits(register: Register, left: u32, filled: u32, control: Control) -> bo
     ensures { λ r. ⌜ r ≡ dataFits register left filled control ⌝ }
 {
     if is_fdri(register) {
-        let length = value_of(frame_length(control.device)) as u64;
+        let length = length_at(control.device) as u64;
         let filled = filled as u64;
         if length <= filled {
             return false;

@@ -2,9 +2,11 @@
 mod checks; // checks.rt: the items of consistency that go by cases
 mod power; // power.rt: the record and the memory of a part that was just powered
 
-use answers::Answer;
+use answers::LoadAnswer;
+use answers::Refusal;
 use config::Control;
 use config::Phase;
+use parts::table::PartAnswer;
 use registers::command;
 ghost use mathlib.Core.Path.{_≡_};
 ghost use Rattle.record.specs.Consistency.{consistent};
@@ -23,7 +25,7 @@ pub struct Record {
 // The record after power-on.
 pub struct PoweredOn {
     pub record: Record,
-    pub answer: Answer,
+    pub answer: LoadAnswer,
 }
 
 // The record is consistent.
@@ -54,23 +56,23 @@ pub fn power_on(device: u32, memory: &mut [u8]) -> PoweredOn
     ensures { λ r. ⌜ r .answer ≡ powerOn device (now (memory .entry)) .answer ⌝ }
     ensures { λ _. ⌜ now (memory .exit) ≡ powerOn device (now (memory .entry)) .memory ⌝ }
 {
-    let wanted = parts::table::memory_length(device);
-    match wanted {
-        parts::table::Figure::UnknownDevice => PoweredOn {
+    let part = parts::table::part_of(device);
+    match part {
+        PartAnswer::Refused(refusal) => PoweredOn {
             record: power::fresh(0),
-            answer: Answer::UnknownDevice,
+            answer: LoadAnswer::Refused(refusal),
         },
-        parts::table::Figure::Value(n) => {
-            if memory.len() != n as usize {
+        PartAnswer::Known(_) => {
+            if memory.len() != parts::table::memory_at(device) as usize {
                 return PoweredOn {
                     record: power::fresh(0),
-                    answer: Answer::WrongMemory,
+                    answer: LoadAnswer::Refused(Refusal::WrongMemory),
                 };
             }
             power::clear(memory);
             PoweredOn {
                 record: power::fresh(device),
-                answer: Answer::Done,
+                answer: LoadAnswer::Done,
             }
         }
     }

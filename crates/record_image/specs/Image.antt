@@ -6,7 +6,7 @@ use mathlib.Core.Bool.{Bool, cond}
 use lib.Dec.{eqb}
 use lib.ListN.{length}
 use Rattle.registers.specs.RegisterAddresses.{addressOf, isFdri}
-use Rattle.answers.specs.StopNumbers.{stopNumber}
+use Rattle.answers.specs.StopsAndRefusals.{stopNumber}
 use Rattle.config.specs.declared.Open.{Open}
 use Rattle.config.specs.declared.Open.the-variants as Open
 use Rattle.config.specs.declared.PartialWord.{PartialWord}

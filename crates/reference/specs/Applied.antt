@@ -7,27 +7,24 @@ use mathlib.Core.Bool.{cond}
 use lib.Dec.{eqb}
 use lib.ListN.{length}
 use Rattle.parts.specs.Table.{memoryAt}
-use Rattle.answers.specs.declared.layout.Verdict.{Verdict}
-use Rattle.answers.specs.declared.layout.Verdict.the-variants as Verdict
+use Rattle.answers.specs.declared.Refusal.the-variants as Refusal
+use Rattle.answers.specs.declared.Answer.{Answer}
+use Rattle.answers.specs.declared.Answer.the-variants as Answer
 use Rattle.layout.specs.Layout.{check}
 use Rattle.layout.specs.ReferenceMachine.{machine}
 use Rattle.layout.specs.declared.FrameRange.{FrameRange}
 
 pub record Applied : Type 0 where
-  pub verdict : Verdict
+  pub answer : Answer
   pub memory : List ℕ
 
-abbrev pub applies : Verdict → List ℕ → Applied
-applies v m = record { verdict = v; memory = m }
+abbrev pub applies : Answer → List ℕ → Applied
+applies v m = record { answer = v; memory = m }
 
 -- what a check's verdict leads to
-unfoldable pub appliedAfter : Verdict → ℕ → List ℕ → List ℕ → Applied
-appliedAfter (Verdict.Accepted n) d b m = cond (eqb (length m) (memoryAt d)) (applies (Verdict.Accepted n) (machine d b m)) (applies Verdict.WrongMemory m)
-appliedAfter Verdict.UnknownDevice d b m = applies Verdict.UnknownDevice m
-appliedAfter Verdict.WrongRange d b m = applies Verdict.WrongRange m
-appliedAfter Verdict.WrongMemory d b m = applies Verdict.WrongMemory m
-appliedAfter (Verdict.ShortOutput n) d b m = applies (Verdict.ShortOutput n) m
-appliedAfter (Verdict.Refused c at) d b m = applies (Verdict.Refused c at) m
+unfoldable pub appliedAfter : Answer → ℕ → List ℕ → List ℕ → Applied
+appliedAfter (Answer.Done n) d b m = cond (eqb (length m) (memoryAt d)) (applies (Answer.Done n) (machine d b m)) (applies (Answer.Refused Refusal.WrongMemory 0) m)
+appliedAfter (Answer.Refused c at) d b m = applies (Answer.Refused c at) m
 
 abbrev pub applied : ℕ → FrameRange → List ℕ → List ℕ → Applied
 applied d r b m = appliedAfter (check d r b) d b m

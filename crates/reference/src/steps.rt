@@ -4,18 +4,15 @@ use crate::copy::write_frames;
 use layout::FrameRange;
 use layout::step::StepAt;
 use layout::step::read_step;
-use numbers::Number;
-use numbers::read_number;
-use parts::table::frame_length;
-use parts::table::value_of;
+use layout::step::step_list;
+use parts::table::length_at;
 ghost use mathlib.Core.Path.{_≡_};
 ghost use mathlib.Core.Bool.{true};
 ghost use Prim.Native.Nat.{_≤_};
 ghost use lib.ListN.{length};
-ghost use Rattle.parts.specs.Table.{lengthAt, countAt, memoryAt};
-ghost use Rattle.layout.specs.Ownership.{owns};
-ghost use Rattle.layout.specs.StepReading.{stepsAt, stepOffset};
-ghost use Rattle.layout.specs.Layout.{layoutRead};
+ghost use Rattle.parts.specs.Table.{lengthAt, memoryAt};
+ghost use Rattle.layout.specs.StepReading.{deskSteps, stepOffset};
+ghost use Rattle.layout.specs.Layout.{deskLayout};
 ghost use Rattle.layout.specs.ReferenceMachine.{stepsApplied, madeOf, machine};
 ghost use Rattle.layout.specs.Laws.AcceptedLayout.{isRead};
 ghost use Rattle.layout.specs.Inner.FirstStep.{stepOf, StepBytes};
@@ -28,7 +25,7 @@ fn apply_step(l: usize, layout: &[u8], step: StepAt, memory: &mut [u8]) -> usize
     ensures { λ _. ⌜ now (memory .exit) ≡ stepsApplied l (stepOf l (now (layout .entry)) step) (now (memory .entry)) ⌝ }
 {
     match step {
-        StepAt::Refused { cause: _, at } => at,
+        StepAt::Refused { refusal: _, at } => at,
         StepAt::FrameWrite {
             first,
             count,
@@ -59,10 +56,10 @@ fn apply_steps(
     start: usize,
     memory: &mut [u8],
 )
-    requires { ⌜ (isRead (stepsAt (lengthAt device) (countAt device) (owns range) (now layout) count start) ≡ true) × (length (now memory) ≡ memoryAt device) ⌝ }
-    ensures { λ _. ⌜ now (memory .exit) ≡ madeOf (lengthAt device) (stepsAt (lengthAt device) (countAt device) (owns range) (now (layout .entry)) count start) (now (memory .entry)) ⌝ }
+    requires { ⌜ (isRead (deskSteps device range (now layout) count start) ≡ true) × (length (now memory) ≡ memoryAt device) ⌝ }
+    ensures { λ _. ⌜ now (memory .exit) ≡ madeOf (lengthAt device) (deskSteps device range (now (layout .entry)) count start) (now (memory .entry)) ⌝ }
 {
-    let l = value_of(frame_length(device)) as usize;
+    let l = length_at(device) as usize;
     let mut left: u32 = count;
     let mut at: usize = start;
     while 0 < left {
@@ -72,16 +69,11 @@ fn apply_steps(
     }
 }
 
-// Does the steps of a layout that was accepted. Its edition and its device have one byte each.
+// Does the steps of a layout that was accepted.
 pub(crate) fn apply_list(device: u32, range: FrameRange, layout: &[u8], memory: &mut [u8])
-    requires { ⌜ (device ≤ 7) × (isRead (layoutRead (lengthAt device) (countAt device) (owns range) (now layout) device) ≡ true) × (length (now memory) ≡ memoryAt device) ⌝ }
+    requires { ⌜ (device ≤ 7) × (isRead (deskLayout device range (now layout)) ≡ true) × (length (now memory) ≡ memoryAt device) ⌝ }
     ensures { λ _. ⌜ now (memory .exit) ≡ machine device (now (layout .entry)) (now (memory .entry)) ⌝ }
 {
-    let count = read_number(layout, 2);
-    match count {
-        Number::Refused(_) => {}
-        Number::Value { value, next } => {
-            apply_steps(device, range, layout, value, next, memory);
-        }
-    }
+    let list = step_list(layout);
+    apply_steps(device, range, layout, list.count, list.start, memory);
 }

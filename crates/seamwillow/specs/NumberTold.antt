@@ -5,7 +5,7 @@ use Rattle.parts.specs.declared.frame.NumberAnswer.{NumberAnswer}
 use Rattle.parts.specs.declared.frame.NumberAnswer.the-variants as NumberAnswer
 
 -- the frame number, FFFFFFFF for none and where refused
-unfoldable pub numberTold : NumberAnswer → ℕ
+abbrev pub numberTold : NumberAnswer → ℕ
 numberTold (NumberAnswer.Number n) = n
 numberTold NumberAnswer.NoFrame = 0xFFFFFFFF
-numberTold NumberAnswer.UnknownDevice = 0xFFFFFFFF
+numberTold (NumberAnswer.Refused c) = 0xFFFFFFFF

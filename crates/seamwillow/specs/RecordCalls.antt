@@ -5,10 +5,11 @@ use mathlib.Core.List.{List}
 use mathlib.Core.Bool.{cond}
 use lib.Dec.{eqb}
 use lib.ListN.{length}
-use Rattle.answers.specs.StopNumbers.{answerNumber}
-use Rattle.answers.specs.Changes.{changeNumber, changeValue}
-use Rattle.answers.specs.declared.change.Change.{Change}
-use Rattle.answers.specs.declared.change.Change.the-variants as Change
+use Rattle.answers.specs.StopsAndRefusals.{refusalNumber}
+use Rattle.answers.specs.AnswerNumbers.{answerNumber, answerValue, loadNumber}
+use Rattle.answers.specs.declared.Refusal.the-variants as Refusal
+use Rattle.answers.specs.declared.Answer.{Answer}
+use Rattle.answers.specs.declared.Answer.the-variants as Answer
 use Rattle.record.specs.PowerOn.{Outcome, powerOn}
 use Rattle.loader.specs.Load.{load}
 use Rattle.layout.specs.declared.FrameRange.{FrameRange}
@@ -26,11 +27,11 @@ pub record Result : Type 0 where
 
 -- 22, and nothing changed
 abbrev pub refusedImage : List ℕ → List ℕ → Result
-refusedImage i m = record { code = 22; image = i; memory = m; taken = 0 }
+refusedImage i m = record { code = refusalNumber Refusal.Inconsistent; image = i; memory = m; taken = 0 }
 
 -- the outcome of a call, its record as an image in place of the one handed in
 abbrev pub resultOf : Outcome → List ℕ → Result
-resultOf o i = record { code = answerNumber (o .answer); image = encoded (o .«record») i; memory = o .memory; taken = o .taken }
+resultOf o i = record { code = loadNumber (o .answer); image = encoded (o .«record») i; memory = o .memory; taken = o .taken }
 
 -- "22 where record_len is not 948, judged first, and then nothing is written"
 unfoldable pub poweredImage : ℕ → List ℕ → List ℕ → Result
@@ -49,16 +50,16 @@ pub record Changed : Type 0 where
   pub output : List ℕ
   pub value : ℕ
 
--- a change's number and value, and nothing changed
-abbrev pub keptImage : Change → List ℕ → List ℕ → List ℕ → Changed
-keptImage a i m out = record { code = changeNumber a; image = i; memory = m; output = out; value = changeValue a }
+-- an answer's number and value, and nothing changed
+abbrev pub keptImage : Answer → List ℕ → List ℕ → List ℕ → Changed
+keptImage a i m out = record { code = answerNumber a; image = i; memory = m; output = out; value = answerValue a }
 
 -- a reconfiguration, its record as an image in place of the one handed in
 abbrev pub changedOf : Reconfigured → List ℕ → Changed
 changedOf x i =
-    record { code = changeNumber (x .change); image = encoded (x .«record») i; memory = x .memory; output = x .output; value = changeValue (x .change) }
+    record { code = answerNumber (x .answer); image = encoded (x .«record») i; memory = x .memory; output = x .output; value = answerValue (x .answer) }
 
 -- "22 and 23 as sw_load, then 24 ...; then 37, the layout's refusals and 36 as sw_compile": 22 for bytes that are no image here, all
 -- else by the reconfiguration itself
 unfoldable pub reconfiguredImage : List ℕ → List ℕ → FrameRange → List ℕ → List ℕ → Changed
-reconfiguredImage i m r b out = cond (acceptedImage i) (changedOf (reconfigured (decoded i) m r b out) i) (keptImage Change.Inconsistent i m out)
+reconfiguredImage i m r b out = cond (acceptedImage i) (changedOf (reconfigured (decoded i) m r b out) i) (keptImage (Answer.Refused Refusal.Inconsistent 0) i m out)

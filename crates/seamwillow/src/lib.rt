@@ -3,22 +3,21 @@ ghost use mathlib.Core.Path.{_≡_};
 ghost use Prim.Native.Nat.{_%_};
 ghost use Rattle.crc16.specs.CrcRegister.{feed};
 ghost use Rattle.parts.specs.Table.{partOf, partRefusal, idcodeAt, lengthAt, countAt, memoryAt};
-ghost use Rattle.parts.specs.FrameAddress.{addressFields, frameAddress, frameNumber, addressRefusal, numberRefusal, addressTold};
-ghost use Rattle.answers.specs.LayoutRefusals.{verdictNumber, verdictValue};
+ghost use Rattle.parts.specs.FrameAddress.{addressFields, frameAddress, frameNumber, addressAt, numberRefusal};
+ghost use Rattle.answers.specs.AnswerNumbers.{answerNumber, answerValue};
 ghost use Rattle.layout.specs.Ownership.{range};
 ghost use Rattle.layout.specs.Layout.{check};
 ghost use Rattle.reference.specs.Applied.{applied};
 ghost use Rattle.compiler.specs.Compiled.{compiled};
 ghost use Rattle.seamwillow.specs.NumberTold.{numberTold};
 ghost use Rattle.seamwillow.specs.RecordCalls.{poweredImage, loadedImage, reconfiguredImage};
-use answers::change::change_number;
-use answers::change::change_value;
-use answers::layout::verdict_number;
-use answers::layout::verdict_value;
+use answers::Refusal;
+use answers::answer_number;
+use answers::answer_value;
+use answers::refusal_number;
 use layout::FrameRange;
-use parts::frame::AddressAnswer;
 use parts::frame::NumberAnswer;
-use parts::table::value_of;
+use parts::frame::number_refusal;
 
 // The CRC register after a word is fed for a register address.
 #[no_mangle]
@@ -43,33 +42,32 @@ pub extern "C" fn sw_part(
     ensures { λ _. ⌜ now (frames .exit) ≡ countAt device ⌝ }
     ensures { λ _. ⌜ now («memory_len» .exit) ≡ memoryAt device ⌝ }
 {
-    *idcode = value_of(parts::table::idcode(device));
-    *frame_words = value_of(parts::table::frame_length(device));
-    *frames = value_of(parts::table::frame_count(device));
-    *memory_len = value_of(parts::table::memory_length(device)) as u64;
+    *idcode = parts::table::idcode_at(device);
+    *frame_words = parts::table::length_at(device);
+    *frames = parts::table::count_at(device);
+    *memory_len = parts::table::memory_at(device) as u64;
     parts::table::part_refusal(parts::table::part_of(device))
 }
 
 // The frame address of a frame number: 01's number is returned, the address written.
 #[no_mangle]
 pub extern "C" fn sw_frame_address(device: u32, number: u32, address: &mut u32) -> u32
-    ensures { λ r. ⌜ r ≡ addressRefusal (frameAddress device number) ⌝ }
-    ensures { λ _. ⌜ now (address .exit) ≡ addressTold (frameAddress device number) ⌝ }
+    ensures { λ r. ⌜ r ≡ answerNumber (frameAddress device number) ⌝ }
+    ensures { λ _. ⌜ now (address .exit) ≡ addressAt device number ⌝ }
 {
     let answer = parts::frame::frame_address(device, number);
+    *address = answer_value(answer) as u32;
+    answer_number(answer)
+}
+
+// The frame number that an answer tells, FFFFFFFF for none.
+fn number_told(answer: NumberAnswer) -> u32
+    ensures { λ r. ⌜ r ≡ numberTold answer ⌝ }
+{
     match answer {
-        AddressAnswer::Address(a) => {
-            *address = a;
-            0
-        }
-        AddressAnswer::UnknownDevice => {
-            *address = 0;
-            21
-        }
-        AddressAnswer::OutsidePart => {
-            *address = 0;
-            34
-        }
+        NumberAnswer::Number(n) => n,
+        NumberAnswer::NoFrame => 0xFFFFFFFF,
+        NumberAnswer::Refused(_) => 0xFFFFFFFF,
     }
 }
 
@@ -80,20 +78,8 @@ pub extern "C" fn sw_frame_number(device: u32, address: u32, number: &mut u32) -
     ensures { λ _. ⌜ now (number .exit) ≡ numberTold (frameNumber device address) ⌝ }
 {
     let answer = parts::frame::frame_number(device, address);
-    match answer {
-        NumberAnswer::Number(n) => {
-            *number = n;
-            0
-        }
-        NumberAnswer::NoFrame => {
-            *number = 0xFFFFFFFF;
-            0
-        }
-        NumberAnswer::UnknownDevice => {
-            *number = 0xFFFFFFFF;
-            21
-        }
-    }
+    *number = number_told(answer);
+    number_refusal(answer)
 }
 
 // The fields of a frame address are written; nothing is refused.
@@ -117,13 +103,13 @@ pub extern "C" fn sw_power_on(device: u32, state: &mut [u8], memory: &mut [u8]) 
     ensures { λ _. ⌜ now (memory .exit) ≡ poweredImage device (now (state .entry)) (now (memory .entry)) .memory ⌝ }
 {
     if state.len() != record_image::RECORD_LENGTH {
-        return 22;
+        return refusal_number(Refusal::Inconsistent);
     }
     let on = record::power_on(device, memory);
     let fresh = on.record;
     let answer = on.answer;
     record_image::encode::encode(fresh, state);
-    answers::answer_number(answer)
+    answers::load_number(answer)
 }
 
 // Load: the record's image and the memory are changed, 01's number is returned and the bytes taken are written.
@@ -142,14 +128,14 @@ pub extern "C" fn sw_load(
     let record = record_image::decode::decode(state);
     if !record_image::encode::matches(record, state) {
         *taken = 0;
-        return 22;
+        return refusal_number(Refusal::Inconsistent);
     }
     let loaded = loader::load(record, memory, stream);
     let after = loaded.record;
     let answer = loaded.answer;
     record_image::encode::encode(after, state);
     *taken = loaded.taken;
-    answers::answer_number(answer)
+    answers::load_number(answer)
 }
 
 // Checks a layout: 01's number is returned, the stream's length or the refusal's offset written.
@@ -161,16 +147,16 @@ pub extern "C" fn sw_check(
     layout: &[u8],
     value: &mut u64,
 ) -> u32
-    ensures { λ r. ⌜ r ≡ verdictNumber (check device (range first count) (now (layout .entry))) ⌝ }
-    ensures { λ _. ⌜ now (value .exit) ≡ verdictValue (check device (range first count) (now (layout .entry))) ⌝ }
+    ensures { λ r. ⌜ r ≡ answerNumber (check device (range first count) (now (layout .entry))) ⌝ }
+    ensures { λ _. ⌜ now (value .exit) ≡ answerValue (check device (range first count) (now (layout .entry))) ⌝ }
 {
     let range = FrameRange {
         first: first,
         count: count,
     };
-    let verdict = layout::check(device, range, layout);
-    *value = verdict_value(verdict);
-    verdict_number(verdict)
+    let answer = layout::check(device, range, layout);
+    *value = answer_value(answer);
+    answer_number(answer)
 }
 
 // Applies a layout to a memory, which a refusal leaves: 01's number is returned, the value written as by sw_check.
@@ -183,17 +169,17 @@ pub extern "C" fn sw_apply(
     memory: &mut [u8],
     value: &mut u64,
 ) -> u32
-    ensures { λ r. ⌜ r ≡ verdictNumber (applied device (range first count) (now (layout .entry)) (now (memory .entry)) .verdict) ⌝ }
+    ensures { λ r. ⌜ r ≡ answerNumber (applied device (range first count) (now (layout .entry)) (now (memory .entry)) .answer) ⌝ }
     ensures { λ _. ⌜ now (memory .exit) ≡ applied device (range first count) (now (layout .entry)) (now (memory .entry)) .memory ⌝ }
-    ensures { λ _. ⌜ now (value .exit) ≡ verdictValue (applied device (range first count) (now (layout .entry)) (now (memory .entry)) .verdict) ⌝ }
+    ensures { λ _. ⌜ now (value .exit) ≡ answerValue (applied device (range first count) (now (layout .entry)) (now (memory .entry)) .answer) ⌝ }
 {
     let range = FrameRange {
         first: first,
         count: count,
     };
-    let verdict = reference::apply(device, range, layout, memory);
-    *value = verdict_value(verdict);
-    verdict_number(verdict)
+    let answer = reference::apply(device, range, layout, memory);
+    *value = answer_value(answer);
+    answer_number(answer)
 }
 
 // Compiles a layout into an output, which a refusal leaves: 01's number is returned, the length or the refusal's offset written.
@@ -206,17 +192,17 @@ pub extern "C" fn sw_compile(
     out: &mut [u8],
     value: &mut u64,
 ) -> u32
-    ensures { λ r. ⌜ r ≡ verdictNumber (compiled device (range first count) (now (layout .entry)) (now (out .entry)) .verdict) ⌝ }
+    ensures { λ r. ⌜ r ≡ answerNumber (compiled device (range first count) (now (layout .entry)) (now (out .entry)) .answer) ⌝ }
     ensures { λ _. ⌜ now (out .exit) ≡ compiled device (range first count) (now (layout .entry)) (now (out .entry)) .output ⌝ }
-    ensures { λ _. ⌜ now (value .exit) ≡ verdictValue (compiled device (range first count) (now (layout .entry)) (now (out .entry)) .verdict) ⌝ }
+    ensures { λ _. ⌜ now (value .exit) ≡ answerValue (compiled device (range first count) (now (layout .entry)) (now (out .entry)) .answer) ⌝ }
 {
     let range = FrameRange {
         first: first,
         count: count,
     };
-    let verdict = compiler::compile(device, range, layout, out);
-    *value = verdict_value(verdict);
-    verdict_number(verdict)
+    let answer = compiler::compile(device, range, layout, out);
+    *value = answer_value(answer);
+    answer_number(answer)
 }
 
 // Compiles for the record's own device and loads the stream; a refusal changes nothing. The value is written as by sw_compile.
@@ -239,7 +225,7 @@ pub extern "C" fn sw_reconfigure(
     let record = record_image::decode::decode(state);
     if !record_image::encode::matches(record, state) {
         *value = 0;
-        return 22;
+        return refusal_number(Refusal::Inconsistent);
     }
     let range = FrameRange {
         first: first,
@@ -247,8 +233,8 @@ pub extern "C" fn sw_reconfigure(
     };
     let done = reconfigure::reconfigure(record, memory, range, layout, out);
     let changed = done.record;
-    let change = done.change;
+    let answer = done.answer;
     record_image::encode::encode(changed, state);
-    *value = change_value(change);
-    change_number(change)
+    *value = answer_value(answer);
+    answer_number(answer)
 }

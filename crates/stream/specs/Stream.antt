@@ -5,7 +5,7 @@ use mathlib.Core.List.{List, [], _∷_, _++_}
 use lib.ListN.{getD, drop, replicate}
 use Rattle.parts.specs.Table.{idcodeAt, lengthAt}
 use Rattle.parts.specs.FrameMemory.{bytesOf}
-use Rattle.parts.specs.FrameAddress.{frameAddress, addressTold}
+use Rattle.parts.specs.FrameAddress.{addressAt}
 use Rattle.registers.specs.CommandCodes.{WCFG, MFWR, RCRC, DESYNC}
 use Rattle.registers.specs.declared.Register.the-variants as Register
 use Rattle.layout.specs.Step.{Step, FrameWrite, MultiFrameWrite}
@@ -23,7 +23,7 @@ framesWords l (x ∷ xs) = wordsFrom l x ++ framesWords l xs
 
 -- FAR: the frame's address, which every frame that a step names has
 abbrev pub toFrame : ℕ → ℕ → Packet
-toFrame d n = Packet.Write Register.Far (addressTold (frameAddress d n))
+toFrame d n = Packet.Write Register.Far (addressAt d n)
 
 -- "then FAR and MFWR for each further target"
 unfoldable pub further : ℕ → List ℕ → List Packet

@@ -1,8 +1,14 @@
 // Prints 01's worked examples for the parts and the CRC, as the proved library answers them.
+use answers::Answer;
+use answers::answer_number;
 use libc::STDOUT_FILENO;
-use parts::frame::AddressAnswer;
 use parts::frame::NumberAnswer;
-use parts::table::Figure;
+use parts::table::count_at;
+use parts::table::idcode_at;
+use parts::table::length_at;
+use parts::table::memory_at;
+use parts::table::part_of;
+use parts::table::part_refusal;
 
 fn text(s: &[u8]) {
     io::write_all(STDOUT_FILENO, s);
@@ -21,30 +27,33 @@ fn refused(number: u32) {
     decimal(number);
 }
 
-fn print_figure(label: &[u8], f: Figure) {
+fn print_figure(label: &[u8], refusal: u32, figure: u32) {
     text(label);
-    match f {
-        Figure::Value(v) => decimal(v),
-        Figure::UnknownDevice => refused(parts::table::figure_refusal(f)),
+    if refusal == 0 {
+        decimal(figure);
+    } else {
+        refused(refusal);
     }
 }
 
-fn print_idcode(f: Figure) {
-    match f {
-        Figure::Value(v) => hex(v),
-        Figure::UnknownDevice => refused(parts::table::figure_refusal(f)),
+fn print_idcode(refusal: u32, idcode: u32) {
+    if refusal == 0 {
+        hex(idcode);
+    } else {
+        refused(refusal);
     }
 }
 
 // A row of 01's table.
 fn print_part(device: u32) {
+    let refusal = part_refusal(part_of(device));
     text(b"device ");
     decimal(device);
     text(b" idcode ");
-    print_idcode(parts::table::idcode(device));
-    print_figure(b" words ", parts::table::frame_length(device));
-    print_figure(b" frames ", parts::table::frame_count(device));
-    print_figure(b" bytes ", parts::table::memory_length(device));
+    print_idcode(refusal, idcode_at(device));
+    print_figure(b" words ", refusal, length_at(device));
+    print_figure(b" frames ", refusal, count_at(device));
+    print_figure(b" bytes ", refusal, memory_at(device));
     text(b"\n");
 }
 
@@ -53,7 +62,7 @@ fn print_number(device: u32, address: u32) {
     match answer {
         NumberAnswer::Number(n) => decimal(n),
         NumberAnswer::NoFrame => text(b"none"),
-        NumberAnswer::UnknownDevice => refused(parts::frame::number_refusal(answer)),
+        NumberAnswer::Refused(_) => refused(parts::frame::number_refusal(answer)),
     }
 }
 
@@ -66,13 +75,13 @@ fn print_frame(device: u32, number: u32) {
     text(b" address ");
     let answer = parts::frame::frame_address(device, number);
     match answer {
-        AddressAnswer::Address(a) => {
-            hex(a);
+        Answer::Done(_) => {
+            let address = parts::frame::address_at(device, number);
+            hex(address);
             text(b" frame ");
-            print_number(device, a);
+            print_number(device, address);
         }
-        AddressAnswer::UnknownDevice => refused(parts::frame::address_refusal(answer)),
-        AddressAnswer::OutsidePart => refused(parts::frame::address_refusal(answer)),
+        Answer::Refused { .. } => refused(answer_number(answer)),
     }
     text(b"\n");
 }

@@ -12,8 +12,11 @@ use Rattle.build.proofs.compile_into.Tie as tie
 compile-requires : tie.Need-compile-requires
 compile-requires c κs = search needs
 
-enum-known-verdict : tie.Need-enum-known-verdict
-enum-known-verdict c = search needs
+enum-known-answer : tie.Need-enum-known-answer
+enum-known-answer c = search needs
+
+enum-told : tie.Need-enum-told
+enum-told c = search needs
 
 refusal-requires : tie.Need-refusal-requires
 refusal-requires c κs = search needs
@@ -24,10 +27,10 @@ same-length c = search needs
 returns : tie.Need-returns
 returns c = search needs
 
-fits : (c : tie.After-known-told) → c .before .verdict .given .0 .0 ≤ length (c .before .before .before .before .before .compile .last .1 .1 .1 .0)
+fits : (c : tie.After-known-told) → c .before .answer .given .0 .0 ≤ length (c .before .before .before .before .before .compile .last .1 .1 .1 .0)
 fits c =
     let k = c .before .before .before .before .before .compile in
-    rw (k .kept .1 .1 .1 .0) (compiled-accepts _ _ _ _ _ (sym (k .ensures .0) ∙ c .before .verdict .given .1) .1)
+    rw (k .kept .1 .1 .1 .0) (compiled-accepts _ _ _ _ _ (sym (k .ensures .0) ∙ c .before .answer .given .1) .1)
 
 slice-reshare-prefix-write-stream : tie.Need-slice-reshare-prefix-write-stream
 slice-reshare-prefix-write-stream c = fits c
@@ -49,7 +52,8 @@ compile-into-spec =
     tie.close
     (tie.spec
     compile-requires
-    enum-known-verdict
+    enum-known-answer
+    enum-told
     refusal-requires
     same-length
     returns

@@ -9,7 +9,7 @@ use native.Mathlib.Omega.{arith}
 use lib.ListN.{drop, replicate}
 use Rattle.parts.specs.Table.{lengthAt, countAt}
 use Rattle.parts.specs.Laws.Figures.{length-fits, count-fits}
-use Rattle.answers.specs.declared.layout.Cause.{Cause}
+use Rattle.answers.specs.declared.Refusal.{Refusal}
 use Rattle.layout.specs.Step.{Step, listed}
 use Rattle.layout.specs.StepReading.{stepAt, stepsAt, stepOffset}
 use Rattle.layout.specs.Laws.StepViews.{write-view, multi-view}
@@ -62,7 +62,7 @@ module _ (d : ℕ) (b : List ℕ) (s : StepAt) where
   multi-packets k body targets next e =
       rw (e, words-take (lengthAt d) (drop body b), append-nil (wordsFrom (lengthAt d) (drop body b)), append-nil (spreadPackets d (numbersAt b k targets)))
 
-  pub no-packets : (c : Cause) (at : ℕ) → s ≡ StepAt.Refused c at → stepsPackets d (stepOf (lengthAt d) b s) ≡ []
+  pub no-packets : (c : Refusal) (at : ℕ) → s ≡ StepAt.Refused c at → stepsPackets d (stepOf (lengthAt d) b s) ≡ []
   unfolding stepsPackets stepOf
   no-packets c at e = rw e
 

@@ -30,8 +30,8 @@ use denote.Struct.Laws as LL
 use denote.Triple.Entry.{Vals, alive, onEntry}
 use denote.Triple.Statement.{Contract, Triple}
 use denote.Triple.Table.{cited}
-use Rattle.answers.proofs.layout.Verdict as S
-use Rattle.answers.proofs.layout.Verdict.Laws as S′
+use Rattle.answers.proofs.Answer as S
+use Rattle.answers.proofs.Answer.Laws as S′
 use Rattle.layout.specs.LayoutReader as spec
 use Rattle.layout.specs.declared.FrameRange.{FrameRange}
 use Rattle.layout.specs.declared.reader.LayoutReader.{LayoutReader}

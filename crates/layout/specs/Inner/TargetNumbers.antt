@@ -6,7 +6,7 @@ use mathlib.Core.List.{List, [], _∷_}
 use mathlib.Core.Bool.{Bool}
 use native.Mathlib.Omega.{arith}
 use Rattle.parts.specs.Laws.FramePlacing.{frame-end}
-use Rattle.answers.specs.declared.layout.Cause.{Cause}
+use Rattle.answers.specs.declared.Refusal.{Refusal}
 use Rattle.numbers.specs.Number.{numberAt}
 use Rattle.numbers.specs.declared.Number.{Number}
 use Rattle.numbers.specs.declared.Number.the-variants as Number
@@ -42,7 +42,7 @@ pub numbers-value : (b : List ℕ) (k at v next : ℕ) → 0 < k → numberAt b 
 unfolding andNumber
 numbers-value b k at v next h e = some b k at h ∙ rw e
 
-pub numbers-refused : (b : List ℕ) (k at : ℕ) (c : Cause) → 0 < k → numberAt b at ≡ Number.Refused c → numbersAt b k at ≡ []
+pub numbers-refused : (b : List ℕ) (k at : ℕ) (c : Refusal) → 0 < k → numberAt b at ≡ Number.Refused c → numbersAt b k at ≡ []
 unfolding andNumber
 numbers-refused b k at c h e = some b k at h ∙ rw e
 

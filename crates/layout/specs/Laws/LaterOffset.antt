@@ -1,6 +1,6 @@
--- A check at an offset is the check of the bytes from there on: the same verdict, with that offset added to the one that is told.
+-- A layout at an offset is the layout of the bytes from there on, with that offset added to the one that is told; so is its check.
 -- Each definition of the reader gives, m bytes later, what it gives there with m added to every offset; by its cases, and by induction.
-use mathlib.Core.Path.{_≡_, refl, sym}
+use mathlib.Core.Path.{_≡_, refl, sym, ap}
 use Prim.Native.Nat.{ℕ, zero, suc, _+_, _-_}
 use native.Mathlib.Nat.{zero-add, add-zero, suc-add, add-assoc}
 use native.Mathlib.Decide.{decLe}
@@ -10,24 +10,20 @@ use mathlib.Core.Bool.{Bool, true, false, cond}
 use lib.Dec.{ltb, leb·suc-suc}
 use lib.ListN.{length, drop, length-drop, drop-of-length-le}
 use lib.Seq.{drop-drop}
-use Rattle.parts.specs.Table.{figure, frameCount}
-use Rattle.parts.specs.declared.table.Figure.{Figure}
-use Rattle.parts.specs.declared.table.Figure.the-variants as Figure
-use Rattle.answers.specs.declared.layout.Cause.{Cause}
-use Rattle.answers.specs.declared.layout.Verdict.{Verdict}
-use Rattle.answers.specs.declared.layout.Verdict.the-variants as Verdict
+use Rattle.parts.specs.Table.{partOf}
+use Rattle.answers.specs.declared.Refusal.{Refusal}
 use Rattle.numbers.specs.Number.{lastGroup, lowGroup, groups, numberAt}
 use Rattle.numbers.specs.declared.Number.{Number}
 use Rattle.numbers.specs.declared.Number.the-variants as Number
 use Rattle.layout.specs.Step.{Step, Reading, before, listed}
 use Rattle.layout.specs.StepReading.{judgedTarget, andTarget, targetsAt, judgedWrite, writeCount, writeFirst, targetsRead, judgedMulti, multiCount, stepKind, stepAt, andStep, stepsAt}
-use Rattle.layout.specs.Layout.{endRead, countRead, deviceRead, editionRead, layoutAt, verdictOf, checkFor, checkAt, check}
+use Rattle.layout.specs.Layout.{endRead, countRead, deviceRead, editionRead, layoutAt, deskLayoutAt, deskLayout, checkFor, checkAt}
 use Rattle.layout.specs.declared.FrameRange.{FrameRange}
 use Rattle.layout.specs.declared.step.StepAt.{StepAt}
 use Rattle.layout.specs.declared.step.StepAt.the-variants as StepAt
 
 -- a reading, its offset m more
-unfoldable laterReading : {A : Type 0} → ℕ → Reading A → Reading A
+unfoldable pub laterReading : {A : Type 0} → ℕ → Reading A → Reading A
 laterReading m (Reading.Read x next) = Reading.Read x (m + next)
 laterReading m (Reading.Refused c at) = Reading.Refused c (m + at)
 
@@ -36,15 +32,6 @@ unfoldable laterStep : ℕ → StepAt → StepAt
 laterStep m (StepAt.FrameWrite n k body next) = StepAt.FrameWrite n k (m + body) (m + next)
 laterStep m (StepAt.MultiFrameWrite k body targets next) = StepAt.MultiFrameWrite k (m + body) (m + targets) (m + next)
 laterStep m (StepAt.Refused c at) = StepAt.Refused c (m + at)
-
--- a verdict, the offset that it tells m more
-unfoldable pub laterVerdict : ℕ → Verdict → Verdict
-laterVerdict m (Verdict.Accepted n) = Verdict.Accepted n
-laterVerdict m Verdict.UnknownDevice = Verdict.UnknownDevice
-laterVerdict m Verdict.WrongRange = Verdict.WrongRange
-laterVerdict m Verdict.WrongMemory = Verdict.WrongMemory
-laterVerdict m (Verdict.ShortOutput n) = Verdict.ShortOutput n
-laterVerdict m (Verdict.Refused c at) = Verdict.Refused c (m + at)
 
 -- a function of what a test picks
 picked : {A B : Type 0} (f : A → B) (t : Bool) (x y : A) → f (cond t x y) ≡ cond t (f x) (f y)
@@ -57,7 +44,7 @@ same-test (suc m) x y = rw (suc-add m x, suc-add m y, leb·suc-suc) (same-test m
 
 module _ (m : ℕ) where
   -- what far makes of a number read m bytes later is `later` of what near makes of it there, if so of each refusal and each value
-  groups-later : {A : Type 0} (later : A → A) (far near : Number → A) → ((c : Cause) → far (Number.Refused c) ≡ later (near (Number.Refused c)))
+  groups-later : {A : Type 0} (later : A → A) (far near : Number → A) → ((c : Refusal) → far (Number.Refused c) ≡ later (near (Number.Refused c)))
       → ((v next : ℕ) → far (Number.Value v (m + next)) ≡ later (near (Number.Value v next)))
       → (k : ℕ) (first : Bool) (i : ℕ) (xs : List ℕ) → far (groups k first (m + i) xs) ≡ later (near (groups k first i xs))
   unfolding groups lastGroup lowGroup
@@ -82,14 +69,9 @@ module _ (m : ℕ) where
   read-later l k body (Reading.Read ts next) = simp add-assoc
   read-later l k body (Reading.Refused c at) = refl
 
-  verdict-later : (l : ℕ) (r : Reading (List Step)) → verdictOf l (laterReading m r) ≡ laterVerdict m (verdictOf l r)
-  unfolding verdictOf laterReading laterVerdict
-  verdict-later l (Reading.Read ss next) = refl
-  verdict-later l (Reading.Refused c at) = refl
-
 -- b is m bytes, then those of s
 module _ (m l f : ℕ) (own : ℕ → Bool) (b s : List ℕ) (rest : (i : ℕ) → drop (m + i) b ≡ drop i s) (size : length b ≡ m + length s) where
-  number-later : {A : Type 0} (later : A → A) (far near : ℕ → Number → A) (at : ℕ) → ((c : Cause) → far (m + at) (Number.Refused c) ≡ later (near at (Number.Refused c)))
+  number-later : {A : Type 0} (later : A → A) (far near : ℕ → Number → A) (at : ℕ) → ((c : Refusal) → far (m + at) (Number.Refused c) ≡ later (near at (Number.Refused c)))
       → ((v next : ℕ) → far (m + at) (Number.Value v (m + next)) ≡ later (near at (Number.Value v next))) → far (m + at) (numberAt b (m + at)) ≡ later (near at (numberAt s at))
   number-later later far near at none some = rw (rest at) (groups-later m later (far (m + at)) (near at) none some 4 true at (drop at s))
 
@@ -149,11 +131,10 @@ layout-from l f own b d at =
       | no h ↦ rw (drop-of-length-le b {i = at} (omega arith), add-zero)
     ]
 
-for-later : (d : ℕ) (r : FrameRange) (b : List ℕ) (at : ℕ) (x : Figure) → checkFor x d r b at ≡ laterVerdict at (checkFor x d r (drop at b) 0)
-unfolding checkFor laterVerdict
-for-later d r b at (Figure.Value f) = rw (layout-from _ _ _ b d at, verdict-later, picked (laterVerdict at))
-for-later d r b at Figure.UnknownDevice = refl
+-- a layout at an offset is the layout of the bytes from there on, with that offset added to the one that is told
+pub desk-from : (d : ℕ) (r : FrameRange) (b : List ℕ) (at : ℕ) → deskLayoutAt d r b at ≡ laterReading at (deskLayout d r (drop at b))
+desk-from d r b at = layout-from _ _ _ b d at
 
--- a check at an offset is the check of the bytes from there on, with that offset added to the one that is told
-pub check-from : (d : ℕ) (r : FrameRange) (b : List ℕ) (at : ℕ) → checkAt d r b at ≡ laterVerdict at (check d r (drop at b))
-check-from d r b at = for-later d r b at (figure frameCount d)
+-- and so a check at an offset is the check of what is read there; 21 and 37 tell 0 at any offset
+pub check-from : (d : ℕ) (r : FrameRange) (b : List ℕ) (at : ℕ) → checkAt d r b at ≡ checkFor (partOf d) d r (laterReading at (deskLayout d r (drop at b)))
+check-from d r b at = ap (checkFor (partOf d) d r) (desk-from d r b at)

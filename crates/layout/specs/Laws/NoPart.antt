@@ -5,9 +5,9 @@ use Prim.Native.Nat.{ℕ, _+_, _≤_, _<_}
 use mathlib.Core.List.{List}
 use native.Mathlib.Omega.{arith}
 use borrow.Author.Tests.{le-ltb, lt-ltb, ne-eqb}
-use Rattle.parts.specs.Table.{partOf, figureOf, frameCount, valueOf, countAt, lengthAt}
-use Rattle.answers.specs.declared.layout.Cause.{Cause}
-use Rattle.answers.specs.declared.layout.Cause.the-variants as Cause
+use Rattle.parts.specs.Table.{partOf, figureOf, frameCount, countAt, lengthAt}
+use Rattle.answers.specs.declared.Refusal.{Refusal}
+use Rattle.answers.specs.declared.Refusal.the-variants as Refusal
 use Rattle.numbers.specs.Number.{numberAt}
 use Rattle.numbers.specs.declared.Number.the-variants as Number
 use Rattle.layout.specs.Ownership.{owns}
@@ -18,15 +18,15 @@ use Rattle.layout.specs.declared.step.StepAt.{StepAt}
 use Rattle.layout.specs.declared.step.StepAt.the-variants as StepAt
 
 no-frames : (d : ℕ) → 8 ≤ d → countAt d ≡ 0
-unfolding partOf figureOf valueOf
+unfolding partOf figureOf
 no-frames d h = rw (le-ltb d 8 h)
 
 module _ (d : ℕ) (r : FrameRange) (b : List ℕ) (none : 8 ≤ d) where
   -- no step is read
-  pub no-part-refused : (at : ℕ) → (c : Cause) × (told : ℕ) × (deskStep d r b at ≡ StepAt.Refused c told)
+  pub no-part-refused : (at : ℕ) → (c : Refusal) × (told : ℕ) × (deskStep d r b at ≡ StepAt.Refused c told)
   no-part-refused at = go (deskStep d r b at) refl
     where
-      go : (s : StepAt) → deskStep d r b at ≡ s → (c : Cause) × (told : ℕ) × (s ≡ StepAt.Refused c told)
+      go : (s : StepAt) → deskStep d r b at ≡ s → (c : Refusal) × (told : ℕ) × (s ≡ StepAt.Refused c told)
       go (StepAt.FrameWrite n k body next) e =
           let v = write-view (lengthAt d) (countAt d) (owns r) b at n k body next e in absurd (omega (arith, v .positive, v .part, no-frames d none))
       go (StepAt.MultiFrameWrite k body targets next) e =
@@ -35,14 +35,14 @@ module _ (d : ℕ) (r : FrameRange) (b : List ℕ) (none : 8 ≤ d) where
 
   -- kind 1: 34 at the first frame
   pub no-part-write : (at first n count k body : ℕ) → numberAt b at ≡ Number.Value 1 first → numberAt b first ≡ Number.Value n count
-      → numberAt b count ≡ Number.Value k body → 0 < k → deskStep d r b at ≡ StepAt.Refused Cause.OutsidePart first
+      → numberAt b count ≡ Number.Value k body → 0 < k → deskStep d r b at ≡ StepAt.Refused Refusal.OutsidePart first
   unfolding stepKind writeFirst writeCount judgedWrite
   no-part-write at first n count k body kind-read first-read count-read positive =
       rw (kind-read, first-read, count-read, ne-eqb k 0 (omega arith), lt-ltb (countAt d) (n + k) (omega (arith, no-frames d none)))
 
   -- kind 2: 34 at the count
   pub no-part-multi : (at count k body : ℕ) → numberAt b at ≡ Number.Value 2 count → numberAt b count ≡ Number.Value k body → 0 < k
-      → deskStep d r b at ≡ StepAt.Refused Cause.OutsidePart count
+      → deskStep d r b at ≡ StepAt.Refused Refusal.OutsidePart count
   unfolding stepKind multiCount judgedMulti
   no-part-multi at count k body kind-read count-read positive =
       rw (kind-read, count-read, ne-eqb k 0 (omega arith), lt-ltb (countAt d) k (omega (arith, no-frames d none)))

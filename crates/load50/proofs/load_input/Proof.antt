@@ -58,8 +58,8 @@ load-requires c κs = search needs
 add-taken : tie.Need-add-taken Inv-loop μ-loop
 add-taken c = omega (arith, small (c .before .before .before .before), c .before .before .before .before .before .before .before .before .before .before .before .before .before .before .loop .inv .3, c .before .before .before .before .before .before .before .before .before .before .before .before .before .loop-test .taken)
 
-answer-number-requires : tie.Need-answer-number-requires Inv-loop μ-loop
-answer-number-requires c κs = search needs
+load-number-requires : tie.Need-load-number-requires Inv-loop μ-loop
+load-number-requires c κs = search needs
 
 same-length-2 : tie.Need-same-length-2 Inv-loop μ-loop
 same-length-2 c = c .before .before .before .before .before .before .load .kept .1 .0 ∙ c .before .before .before .before .before .before .before .before .before .before .before .before .before .before .before .before .loop .inv .2
@@ -104,7 +104,7 @@ load-input-spec =
     slice-aggregate-load
     load-requires
     add-taken
-    answer-number-requires
+    load-number-requires
     same-length-2
     returns-2
     sub-pieces

@@ -18,8 +18,8 @@ fits : (c : tie.Else1) → let d = c .before .before .before .before .before .ar
 fits c = sym (c .before .consistent .ensures) ∙ not-false _ (c .if1 .left)
 
 -- the length that the second test compares with
-wanted : (c : tie.After-value-of) → c .value-of .result ≡ memoryAt (c .before .before .before .before .before .before .before .args .d .control .device)
-wanted c = rw (c .before .memory-length .ensures) at (c .value-of .ensures)
+wanted : (c : tie.After-memory-at) → c .memory-at .result ≡ memoryAt (c .before .before .before .before .before .before .args .d .control .device)
+wanted c = c .memory-at .ensures
 
 consistent-requires : tie.Need-consistent-requires
 consistent-requires c κs = search needs
@@ -29,19 +29,16 @@ returns c =
     let a = c .before .before .before .before .before .args in
     rw (load-inconsistent (a .d) (now (a .memory)) (now (a .bytes)) (sym (c .before .consistent .ensures) ∙ not-true _ (c .if1 .taken))) (refl, (refl, (refl, refl)))
 
-memory-length-requires : tie.Need-memory-length-requires
-memory-length-requires c κs = search needs
-
-value-of-requires : tie.Need-value-of-requires
-value-of-requires c κs = search needs
+memory-at-requires : tie.Need-memory-at-requires
+memory-at-requires c κs = search needs
 
 cast-if2 : tie.Need-cast-if2
 cast-if2 c = search needs
 
 returns-2 : tie.Need-returns-2
 returns-2 c =
-    let a = c .before .before .before .before .before .before .before .before .args in
-    rw (load-wrong-memory (a .d) (now (a .memory)) (now (a .bytes)) (fits (c .before .before .before)) (rw (wanted (c .before)) at (c .if2 .taken))) (refl, (refl, (refl, refl)))
+    let a = c .before .before .before .before .before .before .before .args in
+    rw (load-wrong-memory (a .d) (now (a .memory)) (now (a .bytes)) (fits (c .before .before)) (rw (wanted (c .before)) at (c .if2 .taken))) (refl, (refl, (refl, refl)))
 
 run-requires : tie.Need-run-requires
 run-requires c κs = search needs
@@ -54,10 +51,10 @@ same-length c = search needs
 
 returns-3 : tie.Need-returns-3
 returns-3 c =
-    let a = c .before .before .before .before .before .before .before .before .before .before .before .before .before .before .args in
+    let a = c .before .before .before .before .before .before .before .before .before .before .before .before .before .args in
     let r = c .before .before .before .before .run .ensures in
     let e = c .before .before .before .before .before .before .if2 .left ∙ wanted (c .before .before .before .before .before .before .before) in
-    rw (load-accepted (a .d) (now (a .memory)) (now (a .bytes)) (record { fits = fits (c .before .before .before .before .before .before .before .before .before); sized = e }))
+    rw (load-accepted (a .d) (now (a .memory)) (now (a .bytes)) (record { fits = fits (c .before .before .before .before .before .before .before .before); sized = e }))
     (r .0, (c .answer-of .ensures ∙ ap (λ (d : Record). answerOf (d .phase)) (r .0), (r .1 .0, r .1 .1)))
 
 pub load-spec : {M : Type 1} → statement M
@@ -66,8 +63,7 @@ load-spec =
     (tie.spec
     consistent-requires
     returns
-    memory-length-requires
-    value-of-requires
+    memory-at-requires
     cast-if2
     returns-2
     run-requires

@@ -40,14 +40,11 @@ at-end : (d : Record) (m s : List ℕ) (i : ℕ) → length s ≤ i → run d m 
 unfolding run
 at-end d m s i h = rw (drop-of-length-le s h)
 
-frame-length-requires : tie.Need-frame-length-requires Inv-loop μ-loop
-frame-length-requires c κs = search needs
-
-value-of-requires : tie.Need-value-of-requires Inv-loop μ-loop
-value-of-requires c κs = search needs
+length-at-requires : tie.Need-length-at-requires Inv-loop μ-loop
+length-at-requires c κs = search needs
 
 loop-holds : tie.Need-loop-holds Inv-loop μ-loop
-loop-holds c = (omega arith, refl, rw (c .before .frame-length .ensures) at (c .value-of .ensures), after-zero _)
+loop-holds c = (omega arith, refl, c .length-at .ensures, after-zero _)
 
 is-stopped-requires : tie.Need-is-stopped-requires Inv-loop μ-loop
 is-stopped-requires c κs = search needs
@@ -64,7 +61,7 @@ advance-requires : tie.Need-advance-requires Inv-loop μ-loop
 advance-requires c κs = (c .before .before .before .before .loop-test .taken, sym (c .before .before .before .is-stopped .ensures) ∙ c .before .before .if1 .left, c .before .before .before .before .before .loop .inv .2)
 
 add-i : tie.Need-add-i Inv-loop μ-loop
-add-i c = omega (arith, c .before .before .before .before .advance .ensures .within, c .before .before .before .before .before .before .before .before .before .before .before .before .before .before .before .before .before .good .1 .1 .0)
+add-i c = omega (arith, c .before .before .before .before .advance .ensures .within, c .before .before .before .before .before .before .before .before .before .before .before .before .before .before .before .before .good .1 .1 .0)
 
 loop-less : tie.Need-loop-less Inv-loop μ-loop
 loop-less c = omega (arith, c .before .before .before .before .advance .ensures .some, c .before .before .before .before .advance .ensures .within)
@@ -85,7 +82,7 @@ same-length-2 c = c .before .loop .inv .1
 returns-2 : tie.Need-returns-2 Inv-loop μ-loop
 returns-2 c =
     let l = c .before .loop in
-    ended (sym (ap (after (l .i)) (at-end _ _ (now (c .before .before .before .before .before .before .before .before .args .bytes)) (l .i) (c .loop-test .left))) ∙ l .inv .3)
+    ended (sym (ap (after (l .i)) (at-end _ _ (now (c .before .before .before .before .before .before .before .args .bytes)) (l .i) (c .loop-test .left))) ∙ l .inv .3)
 
 pub run-spec : {M : Type 1} → statement M
 run-spec =
@@ -93,8 +90,7 @@ run-spec =
     (tie.spec
     Inv-loop
     μ-loop
-    frame-length-requires
-    value-of-requires
+    length-at-requires
     loop-holds
     is-stopped-requires
     same-length

@@ -24,7 +24,7 @@ use Rattle.loader.specs.Run.{isStopped, Ran, ran, run}
 use Rattle.record.specs.PowerOn.{Outcome}
 use Rattle.parts.specs.Table.{memoryAt}
 use Rattle.loader.specs.Load.{answerOf, load}
-use Rattle.answers.specs.declared.Answer.the-variants as Answer
+use Rattle.answers.specs.declared.LoadAnswer.the-variants as LoadAnswer
 use Rattle.loader.specs.Laws.Pieces.{run-invariant, run-append, taken-le, taken-all, load-accepted, load-inconsistent, load-wrong-memory, load-cases, loadable-again, later, load-append}
 use Rattle.loader.specs.Laws.WordRun.{takesWords, partial-empty, wordTransition}
 use Rattle.loader.specs.Laws.WordRun.{word-stops as run-stops}
@@ -43,7 +43,7 @@ pub load-taken : (d : Record) (m xs : List ℕ) → load d m xs .taken ≤ lengt
 load-taken d m xs = load-cases (λ o. o .taken ≤ length xs) d m xs (taken-le d m xs) (λ a. omega arith)
 
 -- and with stop 0 they are all of it
-done-runs : (p : Phase) → answerOf p ≡ Answer.Done → isStopped p ≡ false
+done-runs : (p : Phase) → answerOf p ≡ LoadAnswer.Done → isStopped p ≡ false
 unfolding answerOf isStopped
 done-runs (Phase.Hunting b) h = refl
 done-runs (Phase.Header o) h = refl
@@ -51,7 +51,7 @@ done-runs (Phase.Data r left filled) h = refl
 done-runs Phase.Crc h = refl
 done-runs (Phase.Stopped s) h = let z : _≡_ {A = ℕ} 0 1 = cc in absurd (omega arith)
 
-pub load-all : (d : Record) (m xs : List ℕ) → load d m xs .answer ≡ Answer.Done → load d m xs .taken ≡ length xs
+pub load-all : (d : Record) (m xs : List ℕ) → load d m xs .answer ≡ LoadAnswer.Done → load d m xs .taken ≡ length xs
 load-all d m xs h = go (consistent (d .phase) (d .control)) refl
   where
     go : (t : Bool) → consistent (d .phase) (d .control) ≡ t → load d m xs .taken ≡ length xs

@@ -14,14 +14,15 @@ use borrow.Author.Tests.{eq-eqb, ne-eqb, eqb-true, eqb-false}
 use Rattle.record.specs.Consistency.{consistent}
 use Rattle.config.specs.declared.Phase.{Phase}
 use Rattle.config.specs.declared.Phase.the-variants as Phase
+use Rattle.answers.specs.declared.Refusal.{Refusal}
+use Rattle.answers.specs.declared.Refusal.the-variants as Refusal
 use Rattle.answers.specs.declared.Stop.{Stop}
 use Rattle.loader.specs.Run.{isStopped, byteTransition, recordAfter, memoryAfter, Ran, ran, after, run}
 use Rattle.record.specs.PowerOn.{Outcome}
 use Rattle.parts.specs.Table.{memoryAt}
 use Rattle.loader.specs.Load.{answerOf, refused, finished, load}
 use Rattle.record.specs.declared.Record.{Record}
-use Rattle.answers.specs.declared.Answer.{Answer}
-use Rattle.answers.specs.declared.Answer.the-variants as Answer
+use Rattle.answers.specs.declared.LoadAnswer.the-variants as LoadAnswer
 
 -- ---- a run
 
@@ -104,35 +105,35 @@ module _ (d : Record) (m xs : List ℕ) where
   load-accepted h = rw (h .fits, eq-eqb _ _ (h .sized))
 
   -- 01: "Refusals 21 to 23 change no memory and hand the same record back"; "taken is 0"
-  pub load-inconsistent : consistent (d .phase) (d .control) ≡ false → load d m xs ≡ refused Answer.Inconsistent d m
+  pub load-inconsistent : consistent (d .phase) (d .control) ≡ false → load d m xs ≡ refused Refusal.Inconsistent d m
   unfolding load
   load-inconsistent h = rw h
 
-  pub load-wrong-memory : consistent (d .phase) (d .control) ≡ true → length m ≢ memoryAt (d .control .device) → load d m xs ≡ refused Answer.WrongMemory d m
+  pub load-wrong-memory : consistent (d .phase) (d .control) ≡ true → length m ≢ memoryAt (d .control .device) → load d m xs ≡ refused Refusal.WrongMemory d m
   unfolding load
   load-wrong-memory h n = rw (h, ne-eqb _ _ n)
 
   -- 01: "A stopped device takes nothing and answers the same number"
   pub load-stopped : (s : Stop) → Loadable d m → d .phase ≡ Phase.Stopped s
-      → load d m xs ≡ record { «record» = d; memory = m; answer = Answer.Stopped s; taken = 0 }
+      → load d m xs ≡ record { «record» = d; memory = m; answer = LoadAnswer.Stopped s; taken = 0 }
   unfolding isStopped answerOf
   load-stopped s h p = rw (load-accepted h, stopped-run d m xs (ap isStopped p), p)
 
 -- a load is the run, or a refusal whatever the bytes are
 pub data LoadCase (d : Record) (m : List ℕ) : Type 0 where
   accepts : Loadable d m → LoadCase d m
-  refuses : (a : Answer) → ((xs : List ℕ) → load d m xs ≡ refused a d m) → LoadCase d m
+  refuses : (c : Refusal) → ((xs : List ℕ) → load d m xs ≡ refused c d m) → LoadCase d m
 
 pub load-case : (d : Record) (m : List ℕ) → LoadCase d m
 load-case d m = go (consistent (d .phase) (d .control)) (eqb (length m) (memoryAt (d .control .device))) refl refl
   where
     go : (s t : Bool) → consistent (d .phase) (d .control) ≡ s → eqb (length m) (memoryAt (d .control .device)) ≡ t → LoadCase d m
     go true true h e = LoadCase.accepts (record { fits = h; sized = eqb-true _ _ e })
-    go true false h e = LoadCase.refuses Answer.WrongMemory (λ xs. load-wrong-memory d m xs h (eqb-false _ _ e))
-    go false t h e = LoadCase.refuses Answer.Inconsistent (λ xs. load-inconsistent d m xs h)
+    go true false h e = LoadCase.refuses Refusal.WrongMemory (λ xs. load-wrong-memory d m xs h (eqb-false _ _ e))
+    go false t h e = LoadCase.refuses Refusal.Inconsistent (λ xs. load-inconsistent d m xs h)
 
 -- what holds of the run and of every refusal holds of the load
-pub load-cases : (P : Outcome → Type 0) (d : Record) (m xs : List ℕ) → P (finished (run d m xs)) → ((a : Answer) → P (refused a d m)) → P (load d m xs)
+pub load-cases : (P : Outcome → Type 0) (d : Record) (m xs : List ℕ) → P (finished (run d m xs)) → ((c : Refusal) → P (refused c d m)) → P (load d m xs)
 load-cases P d m xs ran-so refused-so = go (load-case d m)
   where
     go : LoadCase d m → P (load d m xs)

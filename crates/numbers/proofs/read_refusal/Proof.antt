@@ -10,14 +10,14 @@ enum-told c = search needs
 enum-known-number : tie.Need-enum-known-number
 enum-known-number c = search needs
 
-cause-number-requires : tie.Need-cause-number-requires
-cause-number-requires c κs = search needs
+refusal-number-requires : tie.Need-refusal-number-requires
+refusal-number-requires c κs = search needs
 
 returns : tie.Need-returns
 returns c = search needs
 
 returns-2 : tie.Need-returns-2
-returns-2 c = rw (c .before .before .number .given .1) (c .cause-number .ensures)
+returns-2 c = rw (c .before .before .number .given .1) (c .refusal-number .ensures)
 
 pub read-refusal-spec : {M : Type 1} → statement M
-read-refusal-spec = tie.close (tie.spec enum-told enum-known-number cause-number-requires returns returns-2)
+read-refusal-spec = tie.close (tie.spec enum-told enum-known-number refusal-number-requires returns returns-2)

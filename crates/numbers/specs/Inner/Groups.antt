@@ -11,7 +11,7 @@ use lib.Dec.{eqb}
 use lib.ListN.{length, getD, drop, drop-of-length-le}
 use lib.Seq.{drop-cons}
 use borrow.Author.Tests.{lt-ltb, le-ltb, ne-eqb, eq-eqb}
-use Rattle.answers.specs.declared.layout.Cause.the-variants as Cause
+use Rattle.answers.specs.declared.Refusal.the-variants as Refusal
 use Rattle.numbers.specs.Number.{lastGroup, lowGroup, groups, numberAt}
 use Rattle.numbers.specs.declared.Number.{Number}
 use Rattle.numbers.specs.declared.Number.the-variants as Number
@@ -67,11 +67,11 @@ module _ {b : List ℕ} {at i low weight : ℕ} (r : GroupsRead b at i low weigh
   next : Next (r .left)
   next = rw (add-one i, ← drop-cons b i 0 h) (r .is)
 
-  pub reading-high : weight ≡ 128 ^ 4 → 15 < x → Number.Refused Cause.BadForm ≡ numberAt b at
+  pub reading-high : weight ≡ 128 ^ 4 → 15 < x → Number.Refused Refusal.BadForm ≡ numberAt b at
   unfolding groups scaled
   reading-high w high = go (r .left) (r .weighs) next
     where
-      go : (k : ℕ) → weight * 128 ^ k ≡ 128 ^ 4 → Next k → Number.Refused Cause.BadForm ≡ numberAt b at
+      go : (k : ℕ) → weight * 128 ^ k ≡ 128 ^ 4 → Next k → Number.Refused Refusal.BadForm ≡ numberAt b at
       go zero e is = rw (lt-ltb 15 x high) at is
       go (suc k) e is = absurd (omega (arith, weight-le (weight * 128) k (fewer weight k e)))
 
@@ -111,6 +111,6 @@ module _ {b : List ℕ} {at i low weight : ℕ} (r : GroupsRead b at i low weigh
 pub reading-weight : {b : List ℕ} {at i low weight : ℕ} → GroupsRead b at i low weight → weight ≤ 128 ^ 4
 reading-weight {weight = w} r = weight-le w (r .left) (r .weighs)
 
-pub reading-end : {b : List ℕ} {at i low weight : ℕ} → GroupsRead b at i low weight → length b ≤ i → Number.Refused Cause.Missing ≡ numberAt b at
+pub reading-end : {b : List ℕ} {at i low weight : ℕ} → GroupsRead b at i low weight → length b ≤ i → Number.Refused Refusal.Missing ≡ numberAt b at
 unfolding groups scaled
 reading-end {b} r h = rw (drop-of-length-le b h) at (r .is)

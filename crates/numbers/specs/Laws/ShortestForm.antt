@@ -11,7 +11,7 @@ use lib.ListN.{length, drop, length-drop}
 use lib.Seq.{drop-drop}
 use borrow.Author.Tests.{lt-ltb, le-ltb, eq-eqb, ne-eqb, ltb-true, ltb-false, not-false}
 use Rattle.parts.specs.Laws.WordBytes.{AreBytes, bytes-drop}
-use Rattle.answers.specs.declared.layout.Cause.{Cause}
+use Rattle.answers.specs.declared.Refusal.{Refusal}
 use Rattle.numbers.specs.Number.{lastGroup, lowGroup, groups, numberAt}
 use Rattle.numbers.specs.declared.Number.{Number}
 use Rattle.numbers.specs.declared.Number.the-variants as Number
@@ -26,7 +26,7 @@ code n = codeFrom 4 n
 
 -- ---- what was read
 
-refused-no-value : {c : Cause} {n next : ℕ} → Number.Refused c ≡ Number.Value n next → ⊥
+refused-no-value : {c : Refusal} {n next : ℕ} → Number.Refused c ≡ Number.Value n next → ⊥
 refused-no-value e = let z : _≡_ {A = ℕ} 0 1 = cc in omega arith
 
 last-read : (first : Bool) (x i n next : ℕ) → lastGroup first x i ≡ Number.Value n next → (n ≡ x) × (next ≡ i) × (x ≡ 0 → first ≡ true)

@@ -20,8 +20,8 @@ use Rattle.parts.specs.declared.table.Part.{Part}
 use Rattle.parts.specs.declared.frame.Run.{Run}
 use Rattle.parts.specs.declared.frame.Search.{Search}
 use Rattle.parts.specs.declared.frame.Search.the-variants as Search
-use Rattle.parts.specs.declared.frame.AddressAnswer.{AddressAnswer}
-use Rattle.parts.specs.declared.frame.AddressAnswer.the-variants as AddressAnswer
+use Rattle.answers.specs.declared.Answer.{Answer}
+use Rattle.answers.specs.declared.Answer.the-variants as Answer
 use Rattle.parts.specs.declared.frame.NumberAnswer.the-variants as NumberAnswer
 
 -- every column of the run fits the fields of an address
@@ -31,8 +31,8 @@ pub record FieldsFit (r : Run) : Type 0 where
   pub minors : r .minors ≤ 256
 
 -- the answer where a search of a run ended so and these columns follow
-unfoldable pub resumed : Search → List Column → AddressAnswer
-resumed (Search.Found a) rest = AddressAnswer.Address a
+unfoldable pub resumed : Search → List Column → Answer
+resumed (Search.Found a) rest = Answer.Done a
 resumed (Search.Past n) rest = addressIn rest n
 
 -- the frame at block b, major m, minor k is in the run
@@ -45,7 +45,7 @@ module _ (n b m k : ℕ) (rest : List Column) (i left : ℕ) where
   abbrev after : ℕ → List Column
   after j = columnsFrom (n - j) b (m + j) k ++ rest
 
-  pub run-here : i < n → left < k → addressIn (after i) left ≡ AddressAnswer.Address (address b (m + i) left)
+  pub run-here : i < n → left < k → addressIn (after i) left ≡ Answer.Done (address b (m + i) left)
   unfolding columnsFrom
   run-here h l = let s : n - i ≡ suc (n - suc i) = omega arith in rw s (address-here _ _ left l)
 
@@ -129,7 +129,7 @@ runs-left p i h = rw (add-one i, drop-cons (runs p) i (run 0 0 0 0) h)
 -- a search of the next run resumes with the runs after it
 module _ (p : Part) (i left : ℕ) (r : Run) (s : Search) (h : i < 6) (e : r ≡ getD (runs p) i (run 0 0 0 0))
     (ended : (rest : List Column) → addressIn (runColumns r ++ rest) left ≡ resumed s rest) where
-  pub runs-found : (a : ℕ) → s ≡ Search.Found a → AddressAnswer.Address a ≡ addressIn (columnsOf (drop i (runs p))) left
+  pub runs-found : (a : ℕ) → s ≡ Search.Found a → Answer.Done a ≡ addressIn (columnsOf (drop i (runs p))) left
   unfolding resumed
   runs-found a k = rw (runs-left p i h, ← e, ended _, k)
 

@@ -9,7 +9,7 @@ use lib.Dec.{eqb, ltb}
 use borrow.Author.Tests.{lt-ltb, le-ltb, eq-eqb, eqb-true, ltb-true}
 use Rattle.parts.specs.Columns.{Column}
 use Rattle.parts.specs.FrameAddress.{address, block, major, minor, addressIn, names, numberIn}
-use Rattle.parts.specs.declared.frame.AddressAnswer.the-variants as AddressAnswer
+use Rattle.answers.specs.declared.Answer.the-variants as Answer
 use Rattle.parts.specs.declared.frame.NumberAnswer.the-variants as NumberAnswer
 
 -- ---- the fields of an address that was put together
@@ -29,7 +29,7 @@ module _ (b m k : ℕ) (hb : b < 4) (hm : m < 256) (hk : k < 256) where
 
 -- ---- one column more
 
-pub address-here : (c : Column) (cs : List Column) (n : ℕ) → n < c .minors → addressIn (c ∷ cs) n ≡ AddressAnswer.Address (address (c .block) (c .major) n)
+pub address-here : (c : Column) (cs : List Column) (n : ℕ) → n < c .minors → addressIn (c ∷ cs) n ≡ Answer.Done (address (c .block) (c .major) n)
 unfolding addressIn
 address-here c cs n h = simp (lt-ltb n (c .minors) h)
 

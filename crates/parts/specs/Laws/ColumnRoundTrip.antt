@@ -9,8 +9,9 @@ use native.Mathlib.Decide.{decLt}
 use Rattle.parts.specs.Columns.{Column, total}
 use Rattle.parts.specs.FrameAddress.{address, block, major, minor, addressIn, names, numberIn}
 use Rattle.parts.specs.Laws.ColumnLookup.{block-address, major-address, minor-address, address-here, address-later, number-here, number-later, names-frame, frame-names, fails}
-use Rattle.parts.specs.declared.frame.AddressAnswer.{AddressAnswer}
-use Rattle.parts.specs.declared.frame.AddressAnswer.the-variants as AddressAnswer
+use Rattle.answers.specs.declared.Refusal.the-variants as Refusal
+use Rattle.answers.specs.declared.Answer.{Answer}
+use Rattle.answers.specs.declared.Answer.the-variants as Answer
 use Rattle.parts.specs.declared.frame.NumberAnswer.{NumberAnswer}
 use Rattle.parts.specs.declared.frame.NumberAnswer.the-variants as NumberAnswer
 
@@ -28,7 +29,7 @@ InOrder from (c ∷ cs) =
     × InOrder (suc (place (c .block) (c .major))) cs
 
 -- an address found among columns that rise is not below their first
-above : (from : ℕ) (cs : List Column) (n a : ℕ) → InOrder from cs → addressIn cs n ≡ AddressAnswer.Address a → from ≤ place (block a) (major a)
+above : (from : ℕ) (cs : List Column) (n a : ℕ) → InOrder from cs → addressIn cs n ≡ Answer.Done a → from ≤ place (block a) (major a)
 unfolding addressIn
 above from [] n a o e = let z : _≡_ {A = ℕ} 0 1 = cc in omega arith
 above from (c ∷ cs) n a o e =
@@ -44,7 +45,7 @@ above from (c ∷ cs) n a o e =
 -- ---- the theorems, for columns that rise
 
 -- number to address to number
-pub number-of-address : (from first : ℕ) (cs : List Column) (n a : ℕ) → InOrder from cs → addressIn cs n ≡ AddressAnswer.Address a
+pub number-of-address : (from first : ℕ) (cs : List Column) (n a : ℕ) → InOrder from cs → addressIn cs n ≡ Answer.Done a
     → numberIn cs first (block a) (major a) (minor a) ≡ NumberAnswer.Number (first + n)
 unfolding addressIn
 number-of-address from first [] n a o e = let z : _≡_ {A = ℕ} 0 1 = cc in absurd (omega arith)
@@ -54,7 +55,7 @@ number-of-address from first (c ∷ cs) n a o e =
           let at : address (c .block) (c .major) n ≡ a = cc (address-here c cs n h) in
           rw (← at) (rw (block-address (c .block) (c .major) n (o .1) (o .2) (omega arith), major-address (c .block) (c .major) n (o .1) (o .2) (omega arith), minor-address (c .block) (c .major) n (o .1) (o .2) (omega arith)) (number-here c cs first (c .block) (c .major) n (frame-names c n h)))
       | no h ↦
-          let e′ : addressIn cs (n - c .minors) ≡ AddressAnswer.Address a = sym (address-later c cs n (omega arith)) ∙ e in
+          let e′ : addressIn cs (n - c .minors) ≡ Answer.Done a = sym (address-later c cs n (omega arith)) ∙ e in
           let later : suc (place (c .block) (c .major)) ≤ place (block a) (major a) = above _ cs (n - c .minors) a (o .4) e′ in
           number-later c cs first (block a) (major a) (minor a) (fails _ (λ t. let named = names-frame c (block a) (major a) (minor a) t in omega arith))
           ∙ number-of-address _ (first + c .minors) cs (n - c .minors) a (o .4) e′
@@ -64,7 +65,7 @@ number-of-address from first (c ∷ cs) n a o e =
 -- address to number to address, with the bits that name no frame cleared; and the number is one of the columns' frames
 pub record Frame (cs : List Column) (first a n : ℕ) : Type 0 where
   pub from-first : first ≤ n
-  pub found : addressIn cs (n - first) ≡ AddressAnswer.Address a
+  pub found : addressIn cs (n - first) ≡ Answer.Done a
   pub below : n < first + total cs
 
 pub address-of-number : (cs : List Column) (first b m k n : ℕ) → numberIn cs first b m k ≡ NumberAnswer.Number n → Frame cs first (address b m k) n
@@ -81,7 +82,7 @@ address-of-number (c ∷ cs) first b m k n e = go (names c b m k) refl (address-
         let here : n - first ≡ k = omega arith in
         record {
           from-first = omega arith;
-          found = rw here (address-here c cs k (named .2) ∙ ap AddressAnswer.Address (cc));
+          found = rw here (address-here c cs k (named .2) ∙ ap Answer.Done (cc));
           below = omega arith;
         }
     go false h ih =
@@ -94,7 +95,7 @@ address-of-number (c ∷ cs) first b m k n e = go (names c b m k) refl (address-
         }
 
 -- a number below the columns' frames has an address
-pub address-below : (cs : List Column) (n : ℕ) → n < total cs → (a : ℕ) × (addressIn cs n ≡ AddressAnswer.Address a)
+pub address-below : (cs : List Column) (n : ℕ) → n < total cs → (a : ℕ) × (addressIn cs n ≡ Answer.Done a)
 unfolding total
 address-below [] n l = absurd (omega arith)
 address-below (c ∷ cs) n l =
@@ -106,7 +107,7 @@ address-below (c ∷ cs) n l =
     ]
 
 -- a number that is not below them has none
-pub address-outside : (cs : List Column) (n : ℕ) → total cs ≤ n → addressIn cs n ≡ AddressAnswer.OutsidePart
+pub address-outside : (cs : List Column) (n : ℕ) → total cs ≤ n → addressIn cs n ≡ Answer.Refused Refusal.OutsidePart 0
 unfolding total addressIn
 address-outside [] n l = refl
 address-outside (c ∷ cs) n l = address-later c cs n (omega arith) ∙ address-outside cs (n - c .minors) (omega arith)

@@ -5,7 +5,7 @@ use Prim.Native.Nat.{ℕ, _+_, _*_, _≤_, _<_}
 use native.Mathlib.Omega.{arith}
 use lib.ListN.{getD}
 use borrow.Author.Tests.{lt-ltb}
-use Rattle.parts.specs.Table.{part, parts, partOf, figureOf, figure, idcodeOf, frameLength, frameCount, memoryLength, valueOf, idcodeAt, lengthAt, countAt, memoryAt}
+use Rattle.parts.specs.Table.{part, parts, partOf, figureOf, figure, idcodeOf, frameLength, frameCount, memoryLength, idcodeAt, lengthAt, countAt, memoryAt}
 use Rattle.parts.specs.Laws.PrintedFigures.{Limits, known-limits, length-limit, count-limit, idcode-limit}
 use Rattle.parts.specs.Laws.FramePlacing.{frame-end}
 use Rattle.parts.specs.declared.table.Part.{Part}
@@ -20,8 +20,8 @@ pub record Figures (d : ℕ) : Type 0 where
   pub length-positive : 0 < lengthAt d
   pub length-limit : lengthAt d ≤ 213
 
-figure-at : (f : Part → ℕ) (d : ℕ) (p : Part) → partOf d ≡ PartAnswer.Known p → valueOf (figure f d) ≡ f p
-unfolding valueOf figureOf
+figure-at : (f : Part → ℕ) (d : ℕ) (p : Part) → partOf d ≡ PartAnswer.Known p → figure f d ≡ f p
+unfolding figureOf
 figure-at f d p k = rw k
 
 length-positive : (p : Part) → 0 < frameLength p
@@ -48,10 +48,10 @@ figures d h =
 
 -- ---- at every number
 
-memory-frames : (q : PartAnswer) → valueOf (figureOf memoryLength q) ≡ 4 * valueOf (figureOf frameLength q) * valueOf (figureOf frameCount q)
-unfolding valueOf figureOf memoryLength
+memory-frames : (q : PartAnswer) → figureOf memoryLength q ≡ 4 * figureOf frameLength q * figureOf frameCount q
+unfolding figureOf memoryLength
 memory-frames (PartAnswer.Known p) = refl
-memory-frames PartAnswer.UnknownDevice = refl
+memory-frames (PartAnswer.Refused c) = refl
 
 -- 01: "Memory is 4·L·F bytes"
 pub memory-size : (d : ℕ) → memoryAt d ≡ 4 * lengthAt d * countAt d
@@ -62,13 +62,13 @@ pub frame-fits : (d n : ℕ) → n < countAt d → 4 * lengthAt d * n + 4 * leng
 frame-fits d n h = rw (memory-size d) (frame-end (lengthAt d) n (countAt d) h)
 
 -- a limit of every part is a limit of the figure at every number
-figure-limit : (f : Part → ℕ) (n d : ℕ) → ((p : Part) → Limits p → f p ≤ n) → valueOf (figure f d) ≤ n
-unfolding valueOf figureOf
+figure-limit : (f : Part → ℕ) (n d : ℕ) → ((p : Part) → Limits p → f p ≤ n) → figure f d ≤ n
+unfolding figureOf
 figure-limit f n d h = go (partOf d) refl
   where
-    go : (q : PartAnswer) → partOf d ≡ q → valueOf (figureOf f q) ≤ n
+    go : (q : PartAnswer) → partOf d ≡ q → figureOf f q ≤ n
     go (PartAnswer.Known p) e = h p (known-limits d p e)
-    go PartAnswer.UnknownDevice e = omega arith
+    go (PartAnswer.Refused c) e = omega arith
 
 -- 01: "a frame in hand of 213 words, of which the first L count"
 pub length-fits : (d : ℕ) → lengthAt d ≤ 213

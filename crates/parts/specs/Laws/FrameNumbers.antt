@@ -7,17 +7,19 @@ use native.Mathlib.Nat.{sub-zero}
 use native.Mathlib.Omega.{arith}
 use native.Mathlib.Decide.{decLt}
 use borrow.Author.Tests.{lt-ltb, le-ltb}
+use Rattle.answers.specs.AnswerNumbers.{answerValue}
+use Rattle.answers.specs.declared.Refusal.{Refusal}
 use Rattle.parts.specs.Table.{partOf, frameCount}
 use Rattle.parts.specs.Laws.PrintedFigures.{known-limits}
 use Rattle.parts.specs.Columns.{Column, columnsFrom, runs, columnsOf, columns, total}
-use Rattle.parts.specs.FrameAddress.{address, block, major, minor, cleared, addressTold, addressIn, numberIn, addressFor, frameAddress, numberFor, frameNumber}
+use Rattle.parts.specs.FrameAddress.{address, block, major, minor, cleared, addressIn, numberIn, addressFor, frameAddress, addressAt, numberFor, frameNumber}
 use Rattle.parts.specs.Inner.ColumnRuns.{run-total}
 use Rattle.parts.specs.Laws.ColumnRoundTrip.{place, InOrder, number-of-address, address-of-number, address-below, address-outside}
 use Rattle.parts.specs.declared.table.Part.{Part}
 use Rattle.parts.specs.declared.table.PartAnswer.{PartAnswer}
 use Rattle.parts.specs.declared.table.PartAnswer.the-variants as PartAnswer
-use Rattle.parts.specs.declared.frame.AddressAnswer.{AddressAnswer}
-use Rattle.parts.specs.declared.frame.AddressAnswer.the-variants as AddressAnswer
+use Rattle.answers.specs.declared.Answer.{Answer}
+use Rattle.answers.specs.declared.Answer.the-variants as Answer
 use Rattle.parts.specs.declared.frame.NumberAnswer.{NumberAnswer}
 use Rattle.parts.specs.declared.frame.NumberAnswer.the-variants as NumberAnswer
 
@@ -62,39 +64,39 @@ module _ (d : ℕ) (q : PartAnswer) (e : q ≡ partOf d) where
         | no h ↦ rw (← e, k) (simp (le-ltb n (frameCount p) (omega arith)) (address-outside (columns p) n (omega (arith, frames-total p))))
       ]
 
-  pub address-unknown : (n : ℕ) → q ≡ PartAnswer.UnknownDevice → AddressAnswer.UnknownDevice ≡ frameAddress d n
+  pub address-unknown : (c : Refusal) (n : ℕ) → q ≡ PartAnswer.Refused c → Answer.Refused c 0 ≡ frameAddress d n
   unfolding addressFor
-  address-unknown n k = rw (← e, k)
+  address-unknown c n k = rw (← e, k)
 
   pub number-known : (p : Part) (a : ℕ) → q ≡ PartAnswer.Known p → numberIn (columns p) 0 (block a) (major a) (minor a) ≡ frameNumber d a
   unfolding numberFor
   number-known p a k = rw (← e, k)
 
-  pub number-unknown : (a : ℕ) → q ≡ PartAnswer.UnknownDevice → NumberAnswer.UnknownDevice ≡ frameNumber d a
+  pub number-unknown : (c : Refusal) (a : ℕ) → q ≡ PartAnswer.Refused c → NumberAnswer.Refused c ≡ frameNumber d a
   unfolding numberFor
-  number-unknown a k = rw (← e, k)
+  number-unknown c a k = rw (← e, k)
 
 -- ---- what an answer says of the part
 
-address-part : (q : PartAnswer) (n a : ℕ) → addressFor q n ≡ AddressAnswer.Address a → (p : Part) × (q ≡ PartAnswer.Known p) × (addressIn (columns p) n ≡ AddressAnswer.Address a)
+address-part : (q : PartAnswer) (n a : ℕ) → addressFor q n ≡ Answer.Done a → (p : Part) × (q ≡ PartAnswer.Known p) × (addressIn (columns p) n ≡ Answer.Done a)
 unfolding addressFor
 address-part (PartAnswer.Known p) n a e =
     elim (decLt n (frameCount p)) [
       | yes h ↦ (p, refl, cc (lt-ltb n (frameCount p) h))
       | no h ↦ let z : _≡_ {A = ℕ} 0 1 = cc (le-ltb n (frameCount p) (omega arith)) in absurd (omega arith)
     ]
-address-part PartAnswer.UnknownDevice n a e = let z : _≡_ {A = ℕ} 0 1 = cc in absurd (omega arith)
+address-part (PartAnswer.Refused c) n a e = let z : _≡_ {A = ℕ} 0 1 = cc in absurd (omega arith)
 
 number-part : (q : PartAnswer) (a n : ℕ) → numberFor q a ≡ NumberAnswer.Number n → (p : Part) × (q ≡ PartAnswer.Known p) × (numberIn (columns p) 0 (block a) (major a) (minor a) ≡ NumberAnswer.Number n)
 unfolding numberFor
 number-part (PartAnswer.Known p) a n e = (p, refl, e)
-number-part PartAnswer.UnknownDevice a n e = let z : _≡_ {A = ℕ} 0 1 = cc in absurd (omega arith)
+number-part (PartAnswer.Refused c) a n e = let z : _≡_ {A = ℕ} 0 1 = cc in absurd (omega arith)
 
 -- ---- the theorems, for any device number
 
 module _ (d : ℕ) where
   -- frame number to frame address to frame number
-  pub number-address-number : (n a : ℕ) → frameAddress d n ≡ AddressAnswer.Address a → frameNumber d a ≡ NumberAnswer.Number n
+  pub number-address-number : (n a : ℕ) → frameAddress d n ≡ Answer.Done a → frameNumber d a ≡ NumberAnswer.Number n
   unfolding numberFor
   number-address-number n a e =
       let f = address-part (partOf d) n a e in
@@ -106,7 +108,7 @@ module _ (d : ℕ) where
   unfolding numberFor
   number-below p a n k e = omega (arith, address-of-number (columns p) 0 (block a) (major a) (minor a) n (sym (rw k) ∙ e) .below, frames-total p)
 
-  pub address-number-address : (a n : ℕ) → frameNumber d a ≡ NumberAnswer.Number n → frameAddress d n ≡ AddressAnswer.Address (cleared a)
+  pub address-number-address : (a n : ℕ) → frameNumber d a ≡ NumberAnswer.Number n → frameAddress d n ≡ Answer.Done (cleared a)
   unfolding addressFor
   address-number-address a n e =
       let f = number-part (partOf d) a n e in
@@ -114,19 +116,32 @@ module _ (d : ℕ) where
       rw (f .1) (simp (lt-ltb n (frameCount (f .0)) (number-below (f .0) a n (f .1) e)) ((rw (sub-zero n) at (g .found))))
 
   -- an address has its fields alone
-  pub address-fits : (n a : ℕ) → frameAddress d n ≡ AddressAnswer.Address a → a < 2 ^ 27
-  unfolding addressTold address block major minor
+  pub address-fits : (n a : ℕ) → frameAddress d n ≡ Answer.Done a → a < 2 ^ 27
+  unfolding address block major minor
   address-fits n a e =
-      let fields : a ≡ cleared a = ap addressTold (sym e ∙ address-number-address a n (number-address-number n a e)) in
+      let fields : a ≡ cleared a = ap answerValue (sym e ∙ address-number-address a n (number-address-number n a e)) in
       rw fields (omega arith)
 
   -- distinct numbers have distinct addresses
-  pub distinct : (n m a : ℕ) → frameAddress d n ≡ AddressAnswer.Address a → frameAddress d m ≡ AddressAnswer.Address a → n ≡ m
+  pub distinct : (n m a : ℕ) → frameAddress d n ≡ Answer.Done a → frameAddress d m ≡ Answer.Done a → n ≡ m
   distinct n m a e f = cc (number-address-number n a e, number-address-number m a f)
 
   -- every number under F has an address
-  pub has-address : (p : Part) (n : ℕ) → partOf d ≡ PartAnswer.Known p → n < frameCount p → (a : ℕ) × (frameAddress d n ≡ AddressAnswer.Address a)
+  pub has-address : (p : Part) (n : ℕ) → partOf d ≡ PartAnswer.Known p → n < frameCount p → (a : ℕ) × (frameAddress d n ≡ Answer.Done a)
   unfolding addressFor
   has-address p n k h =
       let f = address-below (columns p) n (omega (arith, frames-total p)) in
       (f .0, rw k (simp (lt-ltb n (frameCount p) h) (f .1)))
+
+  -- the address at any number is a word: 0 where there is none
+  pub address-small : (n : ℕ) → addressAt d n < 2 ^ 27
+  unfolding addressFor
+  address-small n = go (partOf d) refl
+    where
+      go : (q : PartAnswer) → partOf d ≡ q → answerValue (addressFor q n) < 2 ^ 27
+      go (PartAnswer.Known p) e =
+          elim (decLt n (frameCount p)) [
+            | yes h ↦ let f = has-address p n e h in let g : addressFor (PartAnswer.Known p) n ≡ Answer.Done (f .0) = (rw e at (f .1)) in rw g (address-fits n (f .0) (f .1))
+            | no h ↦ simp (le-ltb n (frameCount p) (omega arith)) (omega arith)
+          ]
+      go (PartAnswer.Refused c) e = omega arith

@@ -8,10 +8,9 @@ use mathlib.Core.Bool.{true, false}
 use lib.ListN.{length}
 use borrow.Author.Tests.{eq-eqb, ne-eqb}
 use Rattle.parts.specs.Table.{memoryAt}
-use Rattle.answers.specs.declared.change.Change.{Change}
-use Rattle.answers.specs.declared.change.Change.the-variants as Change
-use Rattle.answers.specs.declared.layout.Verdict.{Verdict}
-use Rattle.answers.specs.declared.layout.Verdict.the-variants as Verdict
+use Rattle.answers.specs.declared.Refusal.the-variants as Refusal
+use Rattle.answers.specs.declared.Answer.{Answer}
+use Rattle.answers.specs.declared.Answer.the-variants as Answer
 use Rattle.record.specs.Consistency.{consistent}
 use Rattle.record.specs.declared.Record.{Record}
 use Rattle.layout.specs.declared.FrameRange.{FrameRange}
@@ -19,29 +18,25 @@ use Rattle.compiler.specs.Compiled.{compiled}
 use Rattle.reconfigure.specs.Reconfigured.{isHunting, unchanged, reconfiguredAfter, reconfigured}
 
 module _ (e : Record) (m : List ℕ) (r : FrameRange) (b out : List ℕ) where
-  pub inconsistent-so : consistent (e .phase) (e .control) ≡ false → reconfigured e m r b out ≡ unchanged e m r b out Change.Inconsistent
+  pub inconsistent-so : consistent (e .phase) (e .control) ≡ false → reconfigured e m r b out ≡ unchanged e m r b out (Answer.Refused Refusal.Inconsistent 0)
   unfolding reconfigured
   inconsistent-so bad = rw bad
 
-  pub wrong-memory-so : consistent (e .phase) (e .control) ≡ true → length m ≢ memoryAt (e .control .device) → reconfigured e m r b out ≡ unchanged e m r b out (Change.Judged Verdict.WrongMemory)
+  pub wrong-memory-so : consistent (e .phase) (e .control) ≡ true → length m ≢ memoryAt (e .control .device) → reconfigured e m r b out ≡ unchanged e m r b out (Answer.Refused Refusal.WrongMemory 0)
   unfolding reconfigured
   wrong-memory-so fits other = rw (fits, ne-eqb _ _ other)
 
   module _ (fits : consistent (e .phase) (e .control) ≡ true) (room : length m ≡ memoryAt (e .control .device)) where
-    pub not-hunting-so : isHunting (e .phase) ≡ false → reconfigured e m r b out ≡ unchanged e m r b out Change.NotHunting
+    pub not-hunting-so : isHunting (e .phase) ≡ false → reconfigured e m r b out ≡ unchanged e m r b out (Answer.Refused Refusal.NotHunting 0)
     unfolding reconfigured
     not-hunting-so busy = rw (fits, eq-eqb _ _ room, busy)
 
-    pub compiled-so : isHunting (e .phase) ≡ true → reconfigured e m r b out ≡ reconfiguredAfter e m r b out (compiled (e .control .device) r b out .verdict)
+    pub compiled-so : isHunting (e .phase) ≡ true → reconfigured e m r b out ≡ reconfiguredAfter e m r b out (compiled (e .control .device) r b out .answer)
     unfolding reconfigured
     compiled-so hunts = rw (fits, eq-eqb _ _ room, hunts)
 
   -- a refused compile
-  pub refused-so : (v : Verdict) → ((n : ℕ) → v ≢ Verdict.Accepted n) → reconfiguredAfter e m r b out v ≡ unchanged e m r b out (Change.Judged v)
+  pub refused-so : (v : Answer) → ((n : ℕ) → v ≢ Answer.Done n) → reconfiguredAfter e m r b out v ≡ unchanged e m r b out v
   unfolding reconfiguredAfter
-  refused-so (Verdict.Accepted n) never = absurd (never n refl)
-  refused-so Verdict.UnknownDevice never = refl
-  refused-so Verdict.WrongRange never = refl
-  refused-so Verdict.WrongMemory never = refl
-  refused-so (Verdict.ShortOutput n) never = refl
-  refused-so (Verdict.Refused c at) never = refl
+  refused-so (Answer.Done n) never = absurd (never n refl)
+  refused-so (Answer.Refused c at) never = refl

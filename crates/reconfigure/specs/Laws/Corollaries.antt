@@ -10,8 +10,8 @@ use Rattle.parts.specs.Table.{lengthAt}
 use Rattle.parts.specs.Laws.Figures.{length-fits}
 use Rattle.parts.specs.FrameMemory.{frameOf}
 use Rattle.parts.specs.Laws.WordBytes.{AreBytes}
+use Rattle.answers.specs.declared.LoadAnswer.the-variants as LoadAnswer
 use Rattle.answers.specs.declared.Answer.the-variants as Answer
-use Rattle.answers.specs.declared.layout.Verdict.the-variants as Verdict
 use Rattle.config.specs.declared.PartialWord.the-variants as PartialWord
 use Rattle.record.specs.declared.Record.{Record}
 use Rattle.layout.specs.Ownership.{owns}
@@ -25,7 +25,7 @@ use Rattle.loader.specs.Laws.UntouchedFrames.{run-buffer, load-keeps}
 use Rattle.loader.specs.Laws.LoadKeeps.{load-pieces}
 use Rattle.reconfigure.specs.Laws.Demand3.{AwaitsSync, stream-effect}
 
-module _ (d n : ℕ) (r : FrameRange) (b : List ℕ) (bytes : AreBytes b) (taken : check d r b ≡ Verdict.Accepted n) (e : Record) (m : List ℕ) (w : AwaitsSync d e m) where
+module _ (d n : ℕ) (r : FrameRange) (b : List ℕ) (bytes : AreBytes b) (taken : check d r b ≡ Answer.Done n) (e : Record) (m : List ℕ) (w : AwaitsSync d e m) where
   -- the record and the memory that the load leaves
   abbrev pub left : Record
   left = load e m (streamFor d r b) .«record»
@@ -56,15 +56,15 @@ module _ (d n : ℕ) (r : FrameRange) (b : List ℕ) (bytes : AreBytes b) (taken
   outside-stays = stream-effect d n r b bytes taken e m w .effect .outside
 
   -- another accepted layout, for any range: the reference machine one after the other
-  pub then-another : (n′ : ℕ) (r′ : FrameRange) (b′ : List ℕ) → AreBytes b′ → check d r′ b′ ≡ Verdict.Accepted n′
-      → (load left made (streamFor d r′ b′) .answer ≡ Answer.Done) × (load left made (streamFor d r′ b′) .memory ≡ machine d b′ (machine d b m))
+  pub then-another : (n′ : ℕ) (r′ : FrameRange) (b′ : List ℕ) → AreBytes b′ → check d r′ b′ ≡ Answer.Done n′
+      → (load left made (streamFor d r′ b′) .answer ≡ LoadAnswer.Done) × (load left made (streamFor d r′ b′) .memory ≡ machine d b′ (machine d b m))
   then-another n′ r′ b′ bytes′ taken′ =
       let next = stream-effect d n′ r′ b′ bytes′ taken′ left made waits-again in
       (next .stop, next .effect .memory ∙ ap (machine d b′) (stream-effect d n r b bytes taken e m w .effect .memory))
 
   -- and so the two streams as one
-  pub both : (n′ : ℕ) (r′ : FrameRange) (b′ : List ℕ) → AreBytes b′ → check d r′ b′ ≡ Verdict.Accepted n′
-      → let o = load e m (streamFor d r b ++ streamFor d r′ b′) in (o .answer ≡ Answer.Done) × (o .taken ≡ n + n′) × (o .memory ≡ machine d b′ (machine d b m))
+  pub both : (n′ : ℕ) (r′ : FrameRange) (b′ : List ℕ) → AreBytes b′ → check d r′ b′ ≡ Answer.Done n′
+      → let o = load e m (streamFor d r b ++ streamFor d r′ b′) in (o .answer ≡ LoadAnswer.Done) × (o .taken ≡ n + n′) × (o .memory ≡ machine d b′ (machine d b m))
   both n′ r′ b′ bytes′ taken′ =
       let next = then-another n′ r′ b′ bytes′ taken′ in
       let all = stream-effect d n′ r′ b′ bytes′ taken′ left made waits-again .taken in

@@ -9,8 +9,8 @@ use Rattle.parts.specs.Table.{lengthAt, countAt, memoryAt}
 use Rattle.parts.specs.Laws.Figures.{memory-size}
 use Rattle.parts.specs.FrameMemory.{frameOf}
 use Rattle.parts.specs.Laws.WordBytes.{AreBytes}
+use Rattle.answers.specs.declared.LoadAnswer.the-variants as LoadAnswer
 use Rattle.answers.specs.declared.Answer.the-variants as Answer
-use Rattle.answers.specs.declared.layout.Verdict.the-variants as Verdict
 use Rattle.config.specs.declared.PartialWord.{PartialWord}
 use Rattle.config.specs.declared.Phase.the-variants as Phase
 use Rattle.record.specs.Consistency.{consistent}
@@ -47,11 +47,11 @@ pub record AwaitsSync (d : ℕ) (e : Record) (m : List ℕ) : Type 0 where
 
 -- what demand 3 says of a load of n bytes
 pub record LoadEffect (d n : ℕ) (r : FrameRange) (b : List ℕ) (m : List ℕ) (o : Outcome) : Type 0 where
-  pub stop : o .answer ≡ Answer.Done
+  pub stop : o .answer ≡ LoadAnswer.Done
   pub taken : o .taken ≡ n
   pub effect : Effect d r b m (o .«record») (o .memory)
 
-module _ (d n : ℕ) (r : FrameRange) (b : List ℕ) (bytes : AreBytes b) (taken : check d r b ≡ Verdict.Accepted n) where
+module _ (d n : ℕ) (r : FrameRange) (b : List ℕ) (bytes : AreBytes b) (taken : check d r b ≡ Answer.Done n) where
   -- the stream of an accepted layout
   pub stream-effect : (e : Record) (m : List ℕ) → AwaitsSync d e m → LoadEffect d n r b m (load e m (streamFor d r b))
   unfolding streamOf answerOf
@@ -84,7 +84,7 @@ module _ (d n : ℕ) (r : FrameRange) (b : List ℕ) (bytes : AreBytes b) (taken
       }
 
 -- 01: "Accepted means that the compiler answers 0; the stream is the bytes it then wrote"
-pub demand-3 : (d n : ℕ) (r : FrameRange) (b out : List ℕ) → AreBytes b → compiled d r b out .verdict ≡ Verdict.Accepted n
+pub demand-3 : (d n : ℕ) (r : FrameRange) (b out : List ℕ) → AreBytes b → compiled d r b out .answer ≡ Answer.Done n
     → (e : Record) (m : List ℕ) → AwaitsSync d e m → LoadEffect d n r b m (load e m (take n (compiled d r b out .output)))
 demand-3 d n r b out bytes answered e m w =
     rw (compiled-written d n r b out answered) (stream-effect d n r b bytes (compiled-accepts d n r b out answered .0) e m w)

@@ -6,7 +6,7 @@ use Prim.Native.Nat.{ℕ, _≤_}
 use lib.ListN.{length, replicate, take, length-replicate}
 use Rattle.parts.specs.Table.{memoryAt}
 use Rattle.parts.specs.Laws.WordBytes.{AreBytes}
-use Rattle.answers.specs.declared.layout.Verdict.the-variants as Verdict
+use Rattle.answers.specs.declared.Answer.the-variants as Answer
 use Rattle.config.specs.declared.PartialWord.the-variants as PartialWord
 use Rattle.record.specs.PowerOn.{freshControl, fresh, powerOn}
 use Rattle.record.specs.Laws.FreshRecord.{powered-so, fresh-consistent}
@@ -26,7 +26,7 @@ pub fresh-waits : (d : ℕ) (m : List ℕ) → d ≤ 7 → length m ≡ memoryAt
 fresh-waits d m h room = rw (powered-so d m h room) (waits-fresh d h)
 
 -- and so demand 3 holds of it, with the steps done on a memory of zeros
-pub fresh-effect : (d n : ℕ) (r : FrameRange) (b out m : List ℕ) → AreBytes b → compiled d r b out .verdict ≡ Verdict.Accepted n → length m ≡ memoryAt d
+pub fresh-effect : (d n : ℕ) (r : FrameRange) (b out m : List ℕ) → AreBytes b → compiled d r b out .answer ≡ Answer.Done n → length m ≡ memoryAt d
     → LoadEffect d n r b (replicate (memoryAt d) 0) (load (powerOn d m .«record») (powerOn d m .memory) (take n (compiled d r b out .output)))
 fresh-effect d n r b out m bytes answered room =
     let known = accepted d n r b (compiled-accepts d n r b out answered .0) .known in

@@ -12,10 +12,8 @@ use Rattle.parts.specs.Laws.Cases.{either}
 use Rattle.parts.specs.Table.{lengthAt, memoryAt}
 use Rattle.parts.specs.FrameMemory.{frameOf}
 use Rattle.parts.specs.Laws.WordBytes.{AreBytes}
-use Rattle.answers.specs.declared.change.Change.{Change}
-use Rattle.answers.specs.declared.change.Change.the-variants as Change
-use Rattle.answers.specs.declared.layout.Verdict.{Verdict}
-use Rattle.answers.specs.declared.layout.Verdict.the-variants as Verdict
+use Rattle.answers.specs.declared.Answer.{Answer}
+use Rattle.answers.specs.declared.Answer.the-variants as Answer
 use Rattle.config.specs.declared.PartialWord.{PartialWord}
 use Rattle.config.specs.declared.Phase.{Phase}
 use Rattle.config.specs.declared.Phase.the-variants as Phase
@@ -45,9 +43,9 @@ module _ (e : Record) (m : List ℕ) (r : FrameRange) (b out : List ℕ) (bytes 
       record { part = refl; consistent = fits; window = w .0; hunting = w .1; buffer = full; memory = room }
 
   -- the compiler's output, loaded
-  pub accepted-so : (n : ℕ) → AwaitsSync (e .control .device) e m → compiled (e .control .device) r b out .verdict ≡ Verdict.Accepted n
-      → let o = load e m (take n (compiled (e .control .device) r b out .output)) in reconfiguredAfter e m r b out (compiled (e .control .device) r b out .verdict)
-      ≡ record { «record» = o .«record»; memory = o .memory; output = compiled (e .control .device) r b out .output; change = Change.Judged (Verdict.Accepted n) }
+  pub accepted-so : (n : ℕ) → AwaitsSync (e .control .device) e m → compiled (e .control .device) r b out .answer ≡ Answer.Done n
+      → let o = load e m (take n (compiled (e .control .device) r b out .output)) in reconfiguredAfter e m r b out (compiled (e .control .device) r b out .answer)
+      ≡ record { «record» = o .«record»; memory = o .memory; output = compiled (e .control .device) r b out .output; answer = Answer.Done n }
   unfolding reconfiguredAfter
   accepted-so n w answered =
       let told = compiled-accepts (e .control .device) n r b out answered in
@@ -55,11 +53,11 @@ module _ (e : Record) (m : List ℕ) (r : FrameRange) (b out : List ℕ) (bytes 
       rw (answered, compiled-written (e .control .device) n r b out answered, told .2, does .effect .memory)
 
   abbrev KeepsPromise : Reconfigured → Type 0
-  KeepsPromise x = Promised r b e m (x .change) (x .«record») (x .memory)
+  KeepsPromise x = Promised r b e m (x .answer) (x .«record») (x .memory)
 
-  after-keeps : AwaitsSync (e .control .device) e m → (v : Verdict) → compiled (e .control .device) r b out .verdict ≡ v → KeepsPromise (reconfiguredAfter e m r b out v)
+  after-keeps : AwaitsSync (e .control .device) e m → (v : Answer) → compiled (e .control .device) r b out .answer ≡ v → KeepsPromise (reconfiguredAfter e m r b out v)
   unfolding reconfiguredAfter
-  after-keeps w (Verdict.Accepted n) v =
+  after-keeps w (Answer.Done n) v =
       let does = stream-effect (e .control .device) n r b bytes (compiled-accepts (e .control .device) n r b out v .0) e m w in
       record {
         part = does .effect .part;
@@ -69,11 +67,7 @@ module _ (e : Record) (m : List ℕ) (r : FrameRange) (b out : List ℕ) (bytes 
         memory = refl;
         outside = λ k o. ap (frameOf (lengthAt (e .control .device)) k) (sym (does .effect .memory)) ∙ does .effect .outside k o;
       }
-  after-keeps w Verdict.UnknownDevice v = (refl, refl)
-  after-keeps w Verdict.WrongRange v = (refl, refl)
-  after-keeps w Verdict.WrongMemory v = (refl, refl)
-  after-keeps w (Verdict.ShortOutput n) v = (refl, refl)
-  after-keeps w (Verdict.Refused c at) v = (refl, refl)
+  after-keeps w (Answer.Refused c at) v = (refl, refl)
 
   pub promised : KeepsPromise (reconfigured e m r b out)
   unfolding reconfigured

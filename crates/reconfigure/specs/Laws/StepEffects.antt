@@ -11,7 +11,8 @@ use Rattle.parts.specs.Laws.Figures.{figures}
 use Rattle.parts.specs.FrameMemory.{placed}
 use Rattle.parts.specs.Laws.WordBytes.{AreBytes, zero-words}
 use Rattle.parts.specs.Laws.FramePlacing.{frame-end, placed-length}
-use Rattle.parts.specs.FrameAddress.{frameAddress, addressTold}
+use Rattle.answers.specs.AnswerNumbers.{answerValue}
+use Rattle.parts.specs.FrameAddress.{addressAt}
 use Rattle.parts.specs.Laws.FrameNumbers.{number-address-number, address-fits, has-address}
 use Rattle.config.specs.CurrentFrame.{currentFrom, named}
 use Rattle.config.specs.declared.Current.{Current}
@@ -46,15 +47,15 @@ no-packets v = view-none
 -- ---- a frame's address makes the frame the current one
 
 record Named (d n : ℕ) : Type 0 where
-  names : named d (addressTold (frameAddress d n)) ≡ Current.Frame n
-  small : addressTold (frameAddress d n) < 2 ^ 32
+  names : named d (addressAt d n) ≡ Current.Frame n
+  small : addressAt d n < 2 ^ 32
 
 frame-named : (d n : ℕ) → d ≤ 7 → n < countAt d → Named d n
-unfolding addressTold currentFrom
+unfolding currentFrom
 frame-named d n known inside =
     let f = figures d known in
     let found = has-address d (f .part) n (f .known) (omega (arith, f .count)) in
-    let a : addressTold (frameAddress d n) ≡ found .0 = ap addressTold (found .1) in
+    let a : addressAt d n ≡ found .0 = ap answerValue (found .1) in
     let fits = address-fits d n (found .0) (found .1) in
     record { names = rw a (ap currentFrom (number-address-number d n (found .0) (found .1))); small = omega (arith, fits, a) }
 
@@ -64,7 +65,7 @@ module _ (d : ℕ) (known : d ≤ 7) where
   far-reaches v k n c b buffer m quiet inside =
       let f = frame-named d n known inside in
       subst (λ (at : Current). ReachesView (waiting d v k c b buffer) m (packetWords v (toFrame d n)) (waiting d (crcOf v (toFrame d n)) k at b buffer) m) (f .names)
-      (address-reaches d v k c b buffer m (addressTold (frameAddress d n)) quiet (f .small))
+      (address-reaches d v k c b buffer m (addressAt d n) quiet (f .small))
 
   -- ---- targets, with the frame in hand
 

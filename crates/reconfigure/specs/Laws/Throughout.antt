@@ -19,7 +19,7 @@ use Rattle.parts.specs.Laws.FramePlacing.{placed-length, placed-reads-back, pla
 use Rattle.config.specs.Laws.StaysSet.{byte-keeps}
 use Rattle.config.specs.declared.Event.{Event}
 use Rattle.config.specs.declared.Event.the-variants as Event
-use Rattle.answers.specs.declared.layout.Verdict.the-variants as Verdict
+use Rattle.answers.specs.declared.Answer.the-variants as Answer
 use Rattle.record.specs.declared.Record.{Record}
 use Rattle.layout.specs.Ownership.{owns}
 use Rattle.layout.specs.Layout.{check}
@@ -122,7 +122,7 @@ run-blind d m m′ (y ∷ ys) = go (isStopped (d .phase)) refl (run-blind (next 
 
 -- ---- any part of a stream
 
-module _ (d n : ℕ) (r : FrameRange) (b : List ℕ) (bytes : AreBytes b) (taken : check d r b ≡ Verdict.Accepted n) (e : Record) where
+module _ (d n : ℕ) (r : FrameRange) (b : List ℕ) (bytes : AreBytes b) (taken : check d r b ≡ Answer.Done n) (e : Record) where
   -- the run of the stream, of any memory
   ended-as : (m : List ℕ) (k : ℕ) → AwaitsSync d e m → owns r k ≡ false → frameOf (lengthAt d) k (run e m (streamFor d r b) .memory) ≡ frameOf (lengthAt d) k m
   ended-as m k w out =

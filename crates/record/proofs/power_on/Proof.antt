@@ -1,23 +1,26 @@
 -- `record::power_on` meets its contract. By cases: the part is unknown, or its memory has another length, or the memory is cleared.
--- In each the figure's equation and the length's test pick the definition's clause.
-use mathlib.Core.Path.{_∙_, sym}
+-- In each the law of the case gives the definition's outcome.
+use mathlib.Core.Path.{_∙_, ap}
 use borrow.Author.Needs.{needs}
-use borrow.Author.Tests.{eq-eqb, ne-eqb}
-use Rattle.record.specs.PowerOn.{powered}
+use Rattle.record.specs.PowerOn.{Outcome}
+use Rattle.record.specs.Laws.FreshRecord.{no-part, wrong-memory, cleared}
 use Rattle.record.proofs.power_on.Statement.{statement}
 use Rattle.record.proofs.power_on.Tie as tie
 
-memory-length-requires : tie.Need-memory-length-requires
-memory-length-requires c κs = search needs
+part-of-requires : tie.Need-part-of-requires
+part-of-requires c κs = search needs
 
-enum-told : tie.Need-enum-told
-enum-told c = search needs
+enum-known-part : tie.Need-enum-known-part
+enum-known-part c = search needs
 
 fresh-requires : tie.Need-fresh-requires
 fresh-requires c κs = search needs
 
-enum-known-wanted : tie.Need-enum-known-wanted
-enum-known-wanted c = search needs
+enum-told : tie.Need-enum-told
+enum-told c = search needs
+
+memory-at-requires : tie.Need-memory-at-requires
+memory-at-requires c κs = search needs
 
 cast-if1 : tie.Need-cast-if1
 cast-if1 c = search needs
@@ -26,11 +29,9 @@ fresh-requires-2 : tie.Need-fresh-requires-2
 fresh-requires-2 c κs = search needs
 
 returns : tie.Need-returns
-unfolding powered
 returns c =
-    let e = sym (c .before .before .before .before .before .memory-length .ensures) ∙ c .before .before .before .wanted .given .1 in
-    let n = ne-eqb _ _ (c .before .if1 .taken) in
-    (rw (e, n) (c .fresh2 .ensures), (rw (e, n), rw (e, n)))
+    let e = wrong-memory _ _ _ (c .before .before .before .before .before .part-of .ensures) _ (c .before .before .before .enum-told .given .1) (rw (c .before .before .memory-at .ensures) at (c .before .if1 .taken)) in
+    (c .fresh2 .ensures ∙ ap (λ (o : Outcome). o .«record») e, (ap (λ (o : Outcome). o .answer) e, ap (λ (o : Outcome). o .memory) e))
 
 clear-requires : tie.Need-clear-requires
 clear-requires c κs = search needs
@@ -39,30 +40,28 @@ fresh-requires-3 : tie.Need-fresh-requires-3
 fresh-requires-3 c κs = search needs
 
 returns-2 : tie.Need-returns-2
-unfolding powered
 returns-2 c =
-    let e = sym (c .before .before .before .memory-length .ensures) ∙ c .before .enum-told .given .1 in
-    (rw e (c .fresh .ensures), (rw e, rw e))
+    let e = no-part _ _ _ (c .before .before .before .before .part-of .ensures) _ (c .before .before .part .given .1) in
+    (c .fresh .ensures ∙ ap (λ (o : Outcome). o .«record») e, (ap (λ (o : Outcome). o .answer) e, ap (λ (o : Outcome). o .memory) e))
 
 same-length : tie.Need-same-length
 same-length c = search needs
 
 returns-3 : tie.Need-returns-3
-unfolding powered
 returns-3 c =
-    let e = sym (c .before .before .before .before .before .before .before .before .before .memory-length .ensures) ∙ c .before .before .before .before .before .before .before .wanted .given .1 in
-    let same = c .before .before .before .before .before .if1 .left in
-    let n = eq-eqb _ _ same in
-    (rw (e, n) (c .fresh3 .ensures), (rw (e, n), rw (e, n, ← same) (c .before .before .before .clear .ensures)))
+    let same = rw (c .before .before .before .before .before .before .memory-at .ensures) at (c .before .before .before .before .before .if1 .left) in
+    let e = cleared _ _ _ (c .before .before .before .before .before .before .before .before .before .part-of .ensures) _ (c .before .before .before .before .before .before .before .enum-told .given .1) same in
+    (c .fresh3 .ensures ∙ ap (λ (o : Outcome). o .«record») e, (ap (λ (o : Outcome). o .answer) e, (rw same at (c .before .before .before .clear .ensures)) ∙ ap (λ (o : Outcome). o .memory) e))
 
 pub power-on-spec : {M : Type 1} → statement M
 power-on-spec =
     tie.close
     (tie.spec
-    memory-length-requires
-    enum-told
+    part-of-requires
+    enum-known-part
     fresh-requires
-    enum-known-wanted
+    enum-told
+    memory-at-requires
     cast-if1
     fresh-requires-2
     returns

@@ -6,7 +6,7 @@ use mathlib.Core.Bool.{Bool, true}
 use Prim.Native.Nat.{ℕ}
 use lib.ListN.{replicate}
 use Rattle.crc16.specs.CrcRegister.{input, shift, shiftIn, feed}
-use Rattle.parts.specs.Table.{parts, partOf, figureOf, valueOf, idcodeOf, frameLength, frameCount}
+use Rattle.parts.specs.Table.{parts, partOf, figureOf, idcodeOf, frameLength, frameCount}
 use Rattle.parts.specs.FrameMemory.{bytesOf}
 use Rattle.registers.specs.RegisterAddresses.{addressOf, registerAt}
 use Rattle.registers.specs.declared.Register.the-variants as Register
@@ -43,5 +43,5 @@ opening = 0xAA995566 ∷ 0x30016001 ∷ 36 ∷ 0x3001C001 ∷ 0x0140D093 ∷ 0x3
 pub each-phase :
     map reached ([] ∷ (0xAA995566 ∷ []) ∷ (opening ++ 0 ∷ []) ∷ (opening ++ replicate 37 0) ∷ (0xAA995566 ∷ 0xFFFFFFFF ∷ []) ∷ [])
     ≡ (Phase.Hunting PartialWord.Zero, true) ∷ (Phase.Header Open.Closed, true) ∷ (Phase.Data Register.Fdri 36 1, true) ∷ (Phase.Crc, true) ∷ (Phase.Stopped Stop.BadHeader, true) ∷ []
-unfolding input shift shiftIn feed parts partOf figureOf valueOf idcodeOf frameLength frameCount bytesOf addressOf registerAt hold fedCrc type1 packet ready counted begin typeOneWrite obeyed signalled commandCrc commandPhase acted ended onward cmdWord fdriWord idcodeWord flrWord dataWord word isSync hunted gathered byte raised currentFits dataFits phaseFits consistent freshControl fresh
+unfolding input shift shiftIn feed parts partOf figureOf idcodeOf frameLength frameCount bytesOf addressOf registerAt hold fedCrc type1 packet ready counted begin typeOneWrite obeyed signalled commandCrc commandPhase acted ended onward cmdWord fdriWord idcodeWord flrWord dataWord word isSync hunted gathered byte raised currentFits dataFits phaseFits consistent freshControl fresh
 each-phase = refl

@@ -1,30 +1,48 @@
 -- Power-on of a known part with a memory of its length: it is done, the memory is zero, and the record is consistent.
 -- By the part that the device number names; frame 0 is a frame of every part, since F is at least 45.
-use mathlib.Core.Path.{_≡_}
+use mathlib.Core.Path.{_≡_, _∙_, refl, sym, ap}
+use mathlib.Core.Logic.{_≢_}
 use mathlib.Core.List.{List}
 use mathlib.Core.Bool.{true}
 use Prim.Native.Nat.{ℕ, _≤_, _<_}
 use native.Mathlib.Omega.{arith}
 use lib.ListN.{length, replicate}
-use borrow.Author.Tests.{lt-ltb, le-leb, eq-eqb}
-use Rattle.parts.specs.Table.{figureOf, valueOf, frameCount, countAt, memoryAt}
+use borrow.Author.Tests.{lt-ltb, le-leb, eq-eqb, ne-eqb}
+use Rattle.parts.specs.Table.{partOf, frameCount, countAt, memoryAt}
 use Rattle.parts.specs.Laws.Figures.{figures}
 use Rattle.parts.specs.declared.table.Part.{Part}
-use Rattle.answers.specs.declared.Answer.the-variants as Answer
+use Rattle.parts.specs.declared.table.PartAnswer.{PartAnswer}
+use Rattle.parts.specs.declared.table.PartAnswer.the-variants as PartAnswer
+use Rattle.answers.specs.declared.Refusal.{Refusal}
+use Rattle.answers.specs.declared.Refusal.the-variants as Refusal
+use Rattle.answers.specs.declared.LoadAnswer.the-variants as LoadAnswer
 use Rattle.record.specs.Consistency.{currentFits, phaseFits, consistent}
-use Rattle.record.specs.PowerOn.{freshControl, fresh, powered, powerOn}
+use Rattle.record.specs.PowerOn.{freshControl, fresh, notPowered, powered, powerOn}
 
 count-positive : (p : Part) → 0 < frameCount p
 unfolding frameCount
 count-positive p = omega arith
 
--- 01: "memory, registers and frame words zero, all flags clear, current frame 0, hunting"
+-- ---- power-on, case by case
+
+module _ (d : ℕ) (m : List ℕ) (q : PartAnswer) (e : q ≡ partOf d) where
+  pub no-part : (c : Refusal) → q ≡ PartAnswer.Refused c → notPowered c m ≡ powerOn d m
+  unfolding powered
+  no-part c k = ap (λ (v : PartAnswer). powered v d m) (sym k ∙ e)
+
+  pub wrong-memory : (p : Part) → q ≡ PartAnswer.Known p → length m ≢ memoryAt d → notPowered Refusal.WrongMemory m ≡ powerOn d m
+  unfolding powered
+  wrong-memory p k other = simp (ne-eqb _ _ other) at (ap (λ (v : PartAnswer). powered v d m) (sym k ∙ e))
+
+  -- 01: "memory, registers and frame words zero, all flags clear, current frame 0, hunting"
+  pub cleared : (p : Part) → q ≡ PartAnswer.Known p → length m ≡ memoryAt d
+      → record { «record» = fresh d; memory = replicate (memoryAt d) 0; answer = LoadAnswer.Done; taken = 0 } ≡ powerOn d m
+  unfolding powered
+  cleared p k room = simp (eq-eqb _ _ room) at (ap (λ (v : PartAnswer). powered v d m) (sym k ∙ e))
+
 pub powered-so : (d : ℕ) (m : List ℕ) → d ≤ 7 → length m ≡ memoryAt d
-    → powerOn d m ≡ record { «record» = fresh d; memory = replicate (memoryAt d) 0; answer = Answer.Done; taken = 0 }
-unfolding powered figureOf valueOf
-powered-so d m h room =
-    let known = figures d h .known in
-    rw known (simp (eq-eqb _ _ (rw known at room)))
+    → powerOn d m ≡ record { «record» = fresh d; memory = replicate (memoryAt d) 0; answer = LoadAnswer.Done; taken = 0 }
+powered-so d m h room = let f = figures d h in sym (cleared d m (partOf d) refl (f .part) (f .known) room)
 
 pub fresh-consistent : (d : ℕ) → d ≤ 7 → consistent (fresh d .phase) (fresh d .control) ≡ true
 unfolding consistent currentFits phaseFits fresh freshControl

@@ -171,7 +171,7 @@ named-fits d a h = go (frameNumber d a) refl
     go : (q : NumberAnswer) → frameNumber d a ≡ q → currentFits d (currentFrom q) ≡ true
     go (NumberAnswer.Number n) e = let f = figures d h in lt-ltb n (countAt d) (omega (arith, number-below d (f .part) a n (f .known) e, f .count))
     go NumberAnswer.NoFrame e = refl
-    go NumberAnswer.UnknownDevice e = refl
+    go (NumberAnswer.Refused c) e = refl
 
 -- 01: the current frame "steps on by one (after F-1: none)"
 stepped-fits : (d n : ℕ) → currentFits d (stepped d n) ≡ true

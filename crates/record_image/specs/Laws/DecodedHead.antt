@@ -11,7 +11,7 @@ use lib.Pow.{shr-shr}
 use borrow.Author.Tests.{ne-eqb}
 use Rattle.registers.specs.RegisterAddresses.{addressOf}
 use Rattle.registers.specs.Laws.AddressLookup.{register-address}
-use Rattle.answers.specs.StopNumbers.{stopNumber}
+use Rattle.answers.specs.StopsAndRefusals.{stopNumber}
 use Rattle.registers.specs.declared.Register.{Register}
 use Rattle.config.specs.declared.Open.{Open}
 use Rattle.config.specs.declared.Open.the-variants as Open
@@ -42,7 +42,7 @@ open-of (Open.After r) =
     rw (ne-eqb (addressOf r + 1) 0 (λ h. omega arith), e, register-address r)
 
 stop-of : (s : Stop) → stopOf (stopNumber s) ≡ s
-unfolding stopOf stopNumber
+unfolding stopOf
 stop-of Stop.BadHeader = refl
 stop-of Stop.BadRegister = refl
 stop-of Stop.ReadOperation = refl

@@ -5,7 +5,7 @@ use mathlib.Core.Bool.{Bool, true, false, cond}
 use native.Mathlib.Omega.{arith}
 use Rattle.registers.specs.RegisterAddresses.{isFdri}
 use Rattle.registers.specs.Laws.AddressLookup.{address-bound}
-use Rattle.answers.specs.StopNumbers.{stopNumber}
+use Rattle.answers.specs.StopsAndRefusals.{stopNumber}
 use Rattle.config.specs.declared.Open.{Open}
 use Rattle.config.specs.declared.Open.the-variants as Open
 use Rattle.answers.specs.declared.Stop.{Stop}
@@ -24,7 +24,6 @@ use Rattle.record_image.specs.Laws.KeptRecord.{PartialBytes, PhaseInRang
 
 -- 01: "stop number ... 1 to 10"
 stop-bound : (s : Stop) → stopNumber s ≤ 10
-unfolding stopNumber
 stop-bound Stop.BadHeader = omega arith
 stop-bound Stop.BadRegister = omega arith
 stop-bound Stop.ReadOperation = omega arith

@@ -11,8 +11,8 @@ use Rattle.reference.proofs.apply.Statement.{statement}
 use Rattle.reference.proofs.apply.Tie as tie
 
 -- the length that the test compares with
-memory-at : (c : tie.After-value-of) → c .value-of .result ≡ memoryAt (c .before .before .before .before .before .before .before .args .device)
-memory-at c = rw (c .before .memory-length .ensures) at (c .value-of .ensures)
+memory-at : (c : tie.After-memory-at) → c .memory-at .result ≡ memoryAt (c .before .before .before .before .before .before .args .device)
+memory-at c = c .memory-at .ensures
 
 check-requires : tie.Need-check-requires
 check-requires c κs = search needs
@@ -20,11 +20,8 @@ check-requires c κs = search needs
 enum-told : tie.Need-enum-told
 enum-told c = search needs
 
-memory-length-requires : tie.Need-memory-length-requires
-memory-length-requires c κs = search needs
-
-value-of-requires : tie.Need-value-of-requires
-value-of-requires c κs = search needs
+memory-at-requires : tie.Need-memory-at-requires
+memory-at-requires c κs = search needs
 
 cast-if1 : tie.Need-cast-if1
 cast-if1 c = search needs
@@ -32,30 +29,18 @@ cast-if1 c = search needs
 returns : tie.Need-returns
 unfolding appliedAfter
 returns c =
-    let k = sym (c .before .before .before .before .before .check .ensures) ∙ c .before .before .before .enum-told .given .1 in
+    let k = sym (c .before .before .before .before .check .ensures) ∙ c .before .before .enum-told .given .1 in
     rw (k, ne-eqb _ _ (rw (memory-at (c .before)) at (c .if1 .taken))) (refl, refl)
 
 apply-list-requires : tie.Need-apply-list-requires
 unfolding isRead
 apply-list-requires c κs =
-    let a = c .before .before .before .before .before .before .before .before .before .args in
-    let taken = accepted (a .device) _ (a .range) (now (a .layout)) (sym (c .before .before .before .before .before .before .check .ensures) ∙ c .before .before .before .before .enum-told .given .1) in
+    let a = c .before .before .before .before .before .before .before .before .args in
+    let taken = accepted (a .device) _ (a .range) (now (a .layout)) (sym (c .before .before .before .before .before .check .ensures) ∙ c .before .before .before .enum-told .given .1) in
     (taken .known, rw (taken .was-read), c .before .if1 .left ∙ memory-at (c .before .before))
 
 enum-told-2 : tie.Need-enum-told-2
 enum-told-2 c = search needs
-
-enum-told-3 : tie.Need-enum-told-3
-enum-told-3 c = search needs
-
-enum-told-4 : tie.Need-enum-told-4
-enum-told-4 c = search needs
-
-enum-told-5 : tie.Need-enum-told-5
-enum-told-5 c = search needs
-
-enum-told-6 : tie.Need-enum-told-6
-enum-told-6 c = search needs
 
 same-length : tie.Need-same-length
 same-length c = search needs
@@ -63,29 +48,13 @@ same-length c = search needs
 returns-2 : tie.Need-returns-2
 unfolding appliedAfter
 returns-2 c =
-    let e = c .before .before .before .before .before .before .before .enum-told .given .1 in
-    let k = sym (c .before .before .before .before .before .before .before .before .before .check .ensures) ∙ e in
+    let e = c .before .before .before .before .before .before .enum-told .given .1 in
+    let k = sym (c .before .before .before .before .before .before .before .before .check .ensures) ∙ e in
     rw (k, eq-eqb _ _ (c .before .before .before .before .if1 .left ∙ memory-at (c .before .before .before .before .before))) (e, c .before .before .apply-list .ensures)
 
 returns-3 : tie.Need-returns-3
 unfolding appliedAfter
 returns-3 c = let e = c .enum-told2 .given .1 in rw (sym (c .before .before .check .ensures) ∙ e) (e, refl)
-
-returns-4 : tie.Need-returns-4
-unfolding appliedAfter
-returns-4 c = let e = c .enum-told3 .given .1 in rw (sym (c .before .before .check .ensures) ∙ e) (e, refl)
-
-returns-5 : tie.Need-returns-5
-unfolding appliedAfter
-returns-5 c = let e = c .enum-told4 .given .1 in rw (sym (c .before .before .check .ensures) ∙ e) (e, refl)
-
-returns-6 : tie.Need-returns-6
-unfolding appliedAfter
-returns-6 c = let e = c .enum-told5 .given .1 in rw (sym (c .before .before .check .ensures) ∙ e) (e, refl)
-
-returns-7 : tie.Need-returns-7
-unfolding appliedAfter
-returns-7 c = let e = c .enum-told6 .given .1 in rw (sym (c .before .before .check .ensures) ∙ e) (e, refl)
 
 pub apply-spec : {M : Type 1} → statement M
 apply-spec =
@@ -93,20 +62,11 @@ apply-spec =
     (tie.spec
     check-requires
     enum-told
-    memory-length-requires
-    value-of-requires
+    memory-at-requires
     cast-if1
     returns
     apply-list-requires
     enum-told-2
-    enum-told-3
-    enum-told-4
-    enum-told-5
-    enum-told-6
     same-length
     returns-2
-    returns-3
-    returns-4
-    returns-5
-    returns-6
-    returns-7)
+    returns-3)

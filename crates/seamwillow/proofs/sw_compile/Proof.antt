@@ -2,18 +2,18 @@
 -- From what the three calls ensure.
 use mathlib.Core.Path.{_∙_, ap}
 use borrow.Author.Needs.{needs}
-use Rattle.answers.specs.LayoutRefusals.{verdictNumber, verdictValue}
+use Rattle.answers.specs.AnswerNumbers.{answerNumber, answerValue}
 use Rattle.seamwillow.proofs.sw_compile.Statement.{statement}
 use Rattle.seamwillow.proofs.sw_compile.Tie as tie
 
 compile-requires : tie.Need-compile-requires
 compile-requires c κs = search needs
 
-verdict-value-requires : tie.Need-verdict-value-requires
-verdict-value-requires c κs = search needs
+answer-value-requires : tie.Need-answer-value-requires
+answer-value-requires c κs = search needs
 
-verdict-number-requires : tie.Need-verdict-number-requires
-verdict-number-requires c κs = search needs
+answer-number-requires : tie.Need-answer-number-requires
+answer-number-requires c κs = search needs
 
 same-length : tie.Need-same-length
 same-length c = search needs
@@ -21,14 +21,14 @@ same-length c = search needs
 returns : tie.Need-returns
 returns c =
     let e = c .before .before .before .before .compile .ensures in
-    (c .verdict-number .ensures ∙ ap verdictNumber (e .0), (e .1, c .before .verdict-value .ensures ∙ ap verdictValue (e .0)))
+    (c .answer-number .ensures ∙ ap answerNumber (e .0), (e .1, c .before .answer-value .ensures ∙ ap answerValue (e .0)))
 
 pub sw-compile-spec : {M : Type 1} → statement M
 sw-compile-spec =
     tie.close
     (tie.spec
     compile-requires
-    verdict-value-requires
-    verdict-number-requires
+    answer-value-requires
+    answer-number-requires
     same-length
     returns)

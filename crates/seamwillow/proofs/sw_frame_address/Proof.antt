@@ -1,34 +1,31 @@
--- `seamwillow::sw_frame_address` meets its contract: each answer has its number and what is written for it.
--- By computation, once the answer is known.
-use mathlib.Core.Path.{_∙_, refl, sym}
+-- `seamwillow::sw_frame_address` meets its contract: number and value of the answer; an address is a word.
+-- From what the three calls ensure, and the law that every address has 27 bits.
+use mathlib.Core.Path.{_∙_, ap}
+use native.Mathlib.Omega.{arith}
 use borrow.Author.Needs.{needs}
-use Rattle.parts.specs.FrameAddress.{addressTold}
+use Rattle.answers.specs.AnswerNumbers.{answerNumber, answerValue}
+use Rattle.parts.specs.Laws.FrameNumbers.{address-small}
 use Rattle.seamwillow.proofs.sw_frame_address.Statement.{statement}
 use Rattle.seamwillow.proofs.sw_frame_address.Tie as tie
 
 frame-address-requires : tie.Need-frame-address-requires
 frame-address-requires c κs = search needs
 
-enum-known-answer : tie.Need-enum-known-answer
-enum-known-answer c = search needs
+answer-value-requires : tie.Need-answer-value-requires
+answer-value-requires c κs = search needs
 
-enum-told : tie.Need-enum-told
-enum-told c = search needs
+cast-address : tie.Need-cast-address
+cast-address c =
+    let a = c .before .before .args in
+    omega (arith, address-small (a .device) (a .number), c .answer-value .ensures ∙ ap answerValue (c .before .frame-address .ensures))
 
-enum-told-2 : tie.Need-enum-told-2
-enum-told-2 c = search needs
+answer-number-requires : tie.Need-answer-number-requires
+answer-number-requires c κs = search needs
 
 returns : tie.Need-returns
-unfolding addressTold
-returns c = rw (sym (c .before .before .before .frame-address .ensures) ∙ c .before .answer .given .1) (refl, refl)
-
-returns-2 : tie.Need-returns-2
-unfolding addressTold
-returns-2 c = rw (sym (c .before .before .frame-address .ensures) ∙ c .enum-told .given .1) (refl, refl)
-
-returns-3 : tie.Need-returns-3
-unfolding addressTold
-returns-3 c = rw (sym (c .before .before .frame-address .ensures) ∙ c .enum-told2 .given .1) (refl, refl)
+returns c =
+    let e = c .before .before .frame-address .ensures in
+    (c .answer-number .ensures ∙ ap answerNumber e, c .before .answer-value .ensures ∙ ap answerValue e)
 
 pub sw-frame-address-spec : {M : Type 1} → statement M
-sw-frame-address-spec = tie.close (tie.spec frame-address-requires enum-known-answer enum-told enum-told-2 returns returns-2 returns-3)
+sw-frame-address-spec = tie.close (tie.spec frame-address-requires answer-value-requires cast-address answer-number-requires returns)

@@ -3,7 +3,7 @@
 use mathlib.Core.Path.{_≡_, _∙_, refl, ap}
 use borrow.Author.Tests.{not-true, not-false}
 use denote.Ref.{now}
-use Rattle.answers.specs.StopNumbers.{answerNumber}
+use Rattle.answers.specs.AnswerNumbers.{loadNumber}
 use Rattle.loader.specs.Load.{load}
 use Rattle.record.specs.declared.Record.{Record}
 use Rattle.record_image.specs.Image.{encoded}
@@ -26,10 +26,13 @@ matches-requires c κs = search needs
 same-length : tie.Need-same-length
 same-length c = search needs
 
+refusal-number-requires : tie.Need-refusal-number-requires
+refusal-number-requires c κs = search needs
+
 returns : tie.Need-returns
 returns c =
-    let a = c .before .before .before .before .before .before .before .before .args in
-    rw (loaded-refused (now (a .state)) (now (a .memory)) (now (a .stream)) (judged (c .before) ∙ not-true _ (c .if1 .taken))) (refl, (refl, (refl, refl)))
+    let a = c .before .before .before .before .before .before .before .before .before .args in
+    rw (loaded-refused (now (a .state)) (now (a .memory)) (now (a .stream)) (judged (c .before .before) ∙ not-true _ (c .before .if1 .taken))) (c .refusal-number .ensures, (refl, (refl, refl)))
 
 load-requires : tie.Need-load-requires
 load-requires c κs = search needs
@@ -37,8 +40,8 @@ load-requires c κs = search needs
 encode-requires : tie.Need-encode-requires
 encode-requires c κs = search needs
 
-answer-number-requires : tie.Need-answer-number-requires
-answer-number-requires c κs = search needs
+load-number-requires : tie.Need-load-number-requires
+load-number-requires c κs = search needs
 
 same-length-2 : tie.Need-same-length-2
 same-length-2 c = search needs
@@ -52,7 +55,7 @@ returns-2 c =
     let device = c .before .before .before .before .before .before .before .before .before .before .before .before .before .decode .ensures in
     let done = c .before .before .before .before .before .before .before .before .load .ensures in
     rw (loaded-done (now (a .state)) (now (a .memory)) (now (a .stream)) (judged (c .before .before .before .before .before .before .before .before .before .before .before) ∙ not-false _ (c .before .before .before .before .before .before .before .before .before .before .if1 .left)), ← device) (
-      c .answer-number .ensures ∙ ap answerNumber (done .1 .0),
+      c .load-number .ensures ∙ ap loadNumber (done .1 .0),
       (c .before .before .before .encode .ensures ∙ ap (λ (d : Record). encoded d (now (a .state))) (done .0), (done .1 .1 .1, done .1 .1 .0)),
     )
 
@@ -62,11 +65,12 @@ sw-load-spec =
     (tie.spec
     decode-requires
     matches-requires
+    refusal-number-requires
     same-length
     returns
     load-requires
     encode-requires
-    answer-number-requires
+    load-number-requires
     same-length-2
     same-length-3
     returns-2)

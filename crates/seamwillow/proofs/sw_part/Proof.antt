@@ -2,33 +2,21 @@
 -- From what the calls ensure.
 use mathlib.Core.Path.{_∙_, ap}
 use borrow.Author.Needs.{needs}
-use Rattle.parts.specs.Table.{partRefusal, valueOf}
+use Rattle.parts.specs.Table.{partRefusal}
 use Rattle.seamwillow.proofs.sw_part.Statement.{statement}
 use Rattle.seamwillow.proofs.sw_part.Tie as tie
 
-idcode-requires : tie.Need-idcode-requires
-idcode-requires c κs = search needs
+idcode-at-requires : tie.Need-idcode-at-requires
+idcode-at-requires c κs = search needs
 
-value-of-requires : tie.Need-value-of-requires
-value-of-requires c κs = search needs
+length-at-requires : tie.Need-length-at-requires
+length-at-requires c κs = search needs
 
-frame-length-requires : tie.Need-frame-length-requires
-frame-length-requires c κs = search needs
+count-at-requires : tie.Need-count-at-requires
+count-at-requires c κs = search needs
 
-value-of-requires-2 : tie.Need-value-of-requires-2
-value-of-requires-2 c κs = search needs
-
-frame-count-requires : tie.Need-frame-count-requires
-frame-count-requires c κs = search needs
-
-value-of-requires-3 : tie.Need-value-of-requires-3
-value-of-requires-3 c κs = search needs
-
-memory-length-requires : tie.Need-memory-length-requires
-memory-length-requires c κs = search needs
-
-value-of-requires-4 : tie.Need-value-of-requires-4
-value-of-requires-4 c κs = search needs
+memory-at-requires : tie.Need-memory-at-requires
+memory-at-requires c κs = search needs
 
 cast-memory-len : tie.Need-cast-memory-len
 cast-memory-len c = search needs
@@ -42,27 +30,18 @@ part-refusal-requires c κs = search needs
 returns : tie.Need-returns
 returns c =
     let bytes = c .before .before in
-    let frames = bytes .before .before in
-    let words = frames .before .before in
-    let code = words .before .before in
-    let told-code = code .value-of .ensures ∙ ap valueOf (code .before .idcode .ensures) in
-    let told-words = words .value-of2 .ensures ∙ ap valueOf (words .before .frame-length .ensures) in
-    let told-frames = frames .value-of3 .ensures ∙ ap valueOf (frames .before .frame-count .ensures) in
-    let told-bytes = bytes .value-of4 .ensures ∙ ap valueOf (bytes .before .memory-length .ensures) in
-    (c .part-refusal .ensures ∙ ap partRefusal (c .before .part-of .ensures), (told-code, (told-words, (told-frames, told-bytes))))
+    let frames = bytes .before in
+    let words = frames .before in
+    (c .part-refusal .ensures ∙ ap partRefusal (c .before .part-of .ensures), (words .before .idcode-at .ensures, (words .length-at .ensures, (frames .count-at .ensures, bytes .memory-at .ensures))))
 
 pub sw-part-spec : {M : Type 1} → statement M
 sw-part-spec =
     tie.close
     (tie.spec
-    idcode-requires
-    value-of-requires
-    frame-length-requires
-    value-of-requires-2
-    frame-count-requires
-    value-of-requires-3
-    memory-length-requires
-    value-of-requires-4
+    idcode-at-requires
+    length-at-requires
+    count-at-requires
+    memory-at-requires
     cast-memory-len
     part-of-requires
     part-refusal-requires

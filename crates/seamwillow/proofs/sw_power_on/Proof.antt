@@ -2,7 +2,7 @@
 -- By the law of each of the two cases, from what the calls ensure.
 use mathlib.Core.Path.{_∙_, refl, ap}
 use denote.Ref.{now}
-use Rattle.answers.specs.StopNumbers.{answerNumber}
+use Rattle.answers.specs.AnswerNumbers.{loadNumber}
 use Rattle.record.specs.declared.Record.{Record}
 use Rattle.record_image.specs.Image.{encoded}
 use Rattle.seamwillow.specs.Laws.RefusedCalls.{powered-refused, powered-done}
@@ -10,10 +10,13 @@ use borrow.Author.Needs.{needs}
 use Rattle.seamwillow.proofs.sw_power_on.Statement.{statement}
 use Rattle.seamwillow.proofs.sw_power_on.Tie as tie
 
+refusal-number-requires : tie.Need-refusal-number-requires
+refusal-number-requires c κs = search needs
+
 returns : tie.Need-returns
 returns c =
-    let a = c .before .before .before .args in
-    rw (powered-refused (a .device) (now (a .state)) (now (a .memory)) (c .if1 .taken)) (refl, (refl, refl))
+    let a = c .before .before .before .before .args in
+    rw (powered-refused (a .device) (now (a .state)) (now (a .memory)) (c .before .if1 .taken)) (c .refusal-number .ensures, (refl, refl))
 
 power-on-requires : tie.Need-power-on-requires
 power-on-requires c κs = search needs
@@ -21,8 +24,8 @@ power-on-requires c κs = search needs
 encode-requires : tie.Need-encode-requires
 encode-requires c κs = search needs
 
-answer-number-requires : tie.Need-answer-number-requires
-answer-number-requires c κs = search needs
+load-number-requires : tie.Need-load-number-requires
+load-number-requires c κs = search needs
 
 same-length : tie.Need-same-length
 same-length c = search needs
@@ -35,16 +38,17 @@ returns-2 c =
     let a = c .before .before .before .before .before .before .before .before .before .before .before .before .before .args in
     let on = c .before .before .before .before .before .before .before .before .power-on .ensures in
     rw (powered-done (a .device) (now (a .state)) (now (a .memory)) (c .before .before .before .before .before .before .before .before .before .before .if1 .left))
-    (c .answer-number .ensures ∙ ap answerNumber (on .1 .0), (c .before .before .before .encode .ensures ∙ ap (λ (d : Record). encoded d (now (a .state))) (on .0), on .1 .1))
+    (c .load-number .ensures ∙ ap loadNumber (on .1 .0), (c .before .before .before .encode .ensures ∙ ap (λ (d : Record). encoded d (now (a .state))) (on .0), on .1 .1))
 
 pub sw-power-on-spec : {M : Type 1} → statement M
 sw-power-on-spec =
     tie.close
     (tie.spec
+    refusal-number-requires
     returns
     power-on-requires
     encode-requires
-    answer-number-requires
+    load-number-requires
     same-length
     same-length-2
     returns-2)

@@ -4,7 +4,7 @@ use mathlib.Core.Path.{_≡_, _∙_, refl, ap}
 use borrow.Author.Tests.{not-true, not-false}
 use borrow.Author.Needs.{needs}
 use denote.Ref.{now}
-use Rattle.answers.specs.Changes.{changeNumber, changeValue}
+use Rattle.answers.specs.AnswerNumbers.{answerNumber, answerValue}
 use Rattle.record.specs.declared.Record.{Record}
 use Rattle.layout.specs.Ownership.{range}
 use Rattle.record_image.specs.Image.{encoded}
@@ -26,11 +26,13 @@ matches-requires c κs = search needs
 same-length : tie.Need-same-length
 same-length c = search needs
 
+refusal-number-requires : tie.Need-refusal-number-requires
+refusal-number-requires c κs = search needs
+
 returns : tie.Need-returns
-unfolding changeNumber changeValue
 returns c =
-    let a = c .before .before .before .before .before .before .before .before .before .args in
-    rw (reconfigured-refused (now (a .state)) (now (a .memory)) (range (a .first) (a .count)) (now (a .layout)) (now (a .out)) (judged (c .before) ∙ not-true _ (c .if1 .taken))) (refl, (refl, (refl, (refl, refl))))
+    let a = c .before .before .before .before .before .before .before .before .before .before .args in
+    rw (reconfigured-refused (now (a .state)) (now (a .memory)) (range (a .first) (a .count)) (now (a .layout)) (now (a .out)) (judged (c .before .before) ∙ not-true _ (c .before .if1 .taken))) (c .refusal-number .ensures, (refl, (refl, (refl, refl))))
 
 reconfigure-requires : tie.Need-reconfigure-requires
 reconfigure-requires c κs = search needs
@@ -38,11 +40,11 @@ reconfigure-requires c κs = search needs
 encode-requires : tie.Need-encode-requires
 encode-requires c κs = search needs
 
-change-value-requires : tie.Need-change-value-requires
-change-value-requires c κs = search needs
+answer-value-requires : tie.Need-answer-value-requires
+answer-value-requires c κs = search needs
 
-change-number-requires : tie.Need-change-number-requires
-change-number-requires c κs = search needs
+answer-number-requires : tie.Need-answer-number-requires
+answer-number-requires c κs = search needs
 
 same-length-2 : tie.Need-same-length-2
 same-length-2 c = search needs
@@ -59,10 +61,10 @@ returns-2 c =
     let device = c .before .before .before .before .before .before .before .before .before .before .before .before .before .before .before .before .before .decode .ensures in
     let done = c .before .before .before .before .before .before .before .before .before .before .before .reconfigure .ensures in
     rw (reconfigured-done (now (a .state)) (now (a .memory)) (range (a .first) (a .count)) (now (a .layout)) (now (a .out)) (judged (c .before .before .before .before .before .before .before .before .before .before .before .before .before .before .before) ∙ not-false _ (c .before .before .before .before .before .before .before .before .before .before .before .before .before .before .if1 .left)), ← device) (
-      c .change-number .ensures ∙ ap changeNumber (done .0),
+      c .answer-number .ensures ∙ ap answerNumber (done .0),
       (
         c .before .before .before .before .encode .ensures ∙ ap (λ (d : Record). encoded d (now (a .state))) (done .1 .0),
-        (done .1 .1 .0, (done .1 .1 .1 .0, c .before .change-value .ensures ∙ ap changeValue (done .0))),
+        (done .1 .1 .0, (done .1 .1 .1 .0, c .before .answer-value .ensures ∙ ap answerValue (done .0))),
       ),
     )
 
@@ -72,12 +74,13 @@ sw-reconfigure-spec =
     (tie.spec
     decode-requires
     matches-requires
+    refusal-number-requires
     same-length
     returns
     reconfigure-requires
     encode-requires
-    change-value-requires
-    change-number-requires
+    answer-value-requires
+    answer-number-requires
     same-length-2
     same-length-3
     same-length-4

@@ -5,7 +5,7 @@ use mathlib.Core.List.{List, _++_}
 use mathlib.Core.Bool.{Bool, true, false}
 use Prim.Native.Nat.{ℕ, _+_}
 use Rattle.parts.specs.Laws.WordBytes.{AreBytes}
-use Rattle.answers.specs.StopNumbers.{answerNumber}
+use Rattle.answers.specs.AnswerNumbers.{loadNumber}
 use Rattle.record.specs.PowerOn.{Outcome}
 use Rattle.loader.specs.Load.{load}
 use Rattle.loader.specs.Laws.LoadKeeps.{load-pieces}
@@ -40,5 +40,5 @@ loaded-pieces i m a b bytes = go (acceptedImage i) refl
         let x = load (o .«record») (o .memory) b in
         let same : encoded (x .«record») i ≡ encoded (x .«record») j = encoded-image (x .«record») i sized ∙ sym (encoded-image (x .«record») j (accepted-length j again)) in
         loaded-done i m (a ++ b) t ∙ ap (λ (y : Outcome). resultOf y i) (load-pieces d m a b (accepted-lossless i t .range .length))
-        ∙ ap (λ bytes. record { code = answerNumber (x .answer); image = bytes; memory = x .memory; taken = o .taken + x .taken }) same
+        ∙ ap (λ bytes. record { code = loadNumber (x .answer); image = bytes; memory = x .memory; taken = o .taken + x .taken }) same
         ∙ sym (rw (loaded-done i m a t, loaded-done j (o .memory) b again, written-decoded (o .«record») i sized k))

@@ -9,12 +9,12 @@ use lib.Dec.{eqb}
 use lib.ListN.{length, replicate, set, length-replicate}
 use Rattle.parts.specs.Laws.Cases.{either}
 use Rattle.parts.specs.Laws.WordBytes.{AreWords, AreBytes, bytes-small}
-use Rattle.parts.specs.Table.{figure, memoryLength, memoryAt}
-use Rattle.parts.specs.declared.table.Figure.{Figure}
-use Rattle.parts.specs.declared.table.Figure.the-variants as Figure
-use Rattle.answers.specs.StopNumbers.{answerNumber}
-use Rattle.answers.specs.declared.layout.Verdict.{Verdict}
-use Rattle.answers.specs.declared.layout.Verdict.the-variants as Verdict
+use Rattle.parts.specs.Table.{partOf, memoryAt}
+use Rattle.parts.specs.declared.table.PartAnswer.{PartAnswer}
+use Rattle.parts.specs.declared.table.PartAnswer.the-variants as PartAnswer
+use Rattle.answers.specs.AnswerNumbers.{loadNumber}
+use Rattle.answers.specs.declared.Answer.{Answer}
+use Rattle.answers.specs.declared.Answer.the-variants as Answer
 use Rattle.config.specs.declared.Event.{Event}
 use Rattle.config.specs.declared.Event.the-variants as Event
 use Rattle.record.specs.Consistency.{consistent}
@@ -99,10 +99,10 @@ module _ (i m s : List ℕ) (bytes : AreBytes s) (a : acceptedImage i ≡ true) 
 
 -- ---- after power-on
 
-powered-lossless : (f : Figure) (d : ℕ) (m : List ℕ) → d < 2 ^ 32 → Lossless (powered f d m .«record»)
+powered-lossless : (q : PartAnswer) (d : ℕ) (m : List ℕ) → d < 2 ^ 32 → Lossless (powered q d m .«record»)
 unfolding powered
-powered-lossless (Figure.Value n) d m h = either (λ (o : Outcome). Lossless (o .«record»)) (eqb (length m) n) (λ _. fresh-lossless d h) (λ _. fresh-lossless 0 (omega arith))
-powered-lossless Figure.UnknownDevice d m h = fresh-lossless 0 (omega arith)
+powered-lossless (PartAnswer.Known p) d m h = either (λ (o : Outcome). Lossless (o .«record»)) (eqb (length m) (memoryAt d)) (λ _. fresh-lossless d h) (λ _. fresh-lossless 0 (omega arith))
+powered-lossless (PartAnswer.Refused c) d m h = fresh-lossless 0 (omega arith)
 
 fresh-loadable : (d : ℕ) → d ≤ 7 → Loadable (fresh d) (replicate (memoryAt d) 0)
 unfolding fresh freshControl
@@ -112,16 +112,15 @@ module _ (d : ℕ) (r m : List ℕ) (sized : length r ≡ recordLength) where
   module _ (h : d < 2 ^ 32) where
     -- the image that power-on leaves, refused or not, is accepted
     pub powered-accepted : acceptedImage (poweredImage d r m .image) ≡ true
-    powered-accepted = rw (powered-done d r m sized) (written-accepted (powerOn d m .«record») r sized (powered-lossless (figure memoryLength d) d m h))
+    powered-accepted = rw (powered-done d r m sized) (written-accepted (powerOn d m .«record») r sized (powered-lossless (partOf d) d m h))
 
     -- and decodes to the record that power-on left
     pub powered-decoded : decoded (poweredImage d r m .image) ≡ powerOn d m .«record»
-    powered-decoded = rw (powered-done d r m sized) (written-decoded (powerOn d m .«record») r sized (powered-lossless (figure memoryLength d) d m h))
+    powered-decoded = rw (powered-done d r m sized) (written-decoded (powerOn d m .«record») r sized (powered-lossless (partOf d) d m h))
 
   module _ (known : d ≤ 7) (fits : length m ≡ memoryAt d) where
     -- a known device with its memory: the fresh record's image, and a memory of zeros
     pub powered-fresh : poweredImage d r m ≡ record { code = 0; image = image (fresh d); memory = replicate (memoryAt d) 0; taken = 0 }
-    unfolding answerNumber
     powered-fresh = powered-done d r m sized ∙ rw (powered-so d m known fits, encoded-image (fresh d) r sized)
 
     -- the load after it is not refused: it runs from the fresh record and the memory of zeros
@@ -141,14 +140,10 @@ stream-bytes d (Reading.Read ss next) = bytes-small (wordsOf d ss)
 stream-bytes d (Reading.Refused c at) = tt
 
 module _ (m : List ℕ) (r : FrameRange) (b out : List ℕ) where
-  after-lossless : (d : Record) (v : Verdict) → Lossless d → Lossless (reconfiguredAfter d m r b out v .«record»)
+  after-lossless : (d : Record) (v : Answer) → Lossless d → Lossless (reconfiguredAfter d m r b out v .«record»)
   unfolding reconfiguredAfter
-  after-lossless d (Verdict.Accepted n) k = load-lossless d m _ (stream-bytes (d .control .device) _) k
-  after-lossless d Verdict.UnknownDevice k = k
-  after-lossless d Verdict.WrongRange k = k
-  after-lossless d Verdict.WrongMemory k = k
-  after-lossless d (Verdict.ShortOutput n) k = k
-  after-lossless d (Verdict.Refused c at) k = k
+  after-lossless d (Answer.Done n) k = load-lossless d m _ (stream-bytes (d .control .device) _) k
+  after-lossless d (Answer.Refused c at) k = k
 
   reconfigured-lossless : (d : Record) → Lossless d → Lossless (reconfigured d m r b out .«record»)
   unfolding reconfigured

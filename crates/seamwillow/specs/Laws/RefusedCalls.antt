@@ -10,13 +10,10 @@ use lib.ListN.{length}
 use borrow.Author.Tests.{eq-eqb, ne-eqb}
 use Rattle.record.specs.Consistency.{consistent}
 use Rattle.record.specs.declared.Record.{Record}
-use Rattle.answers.specs.StopNumbers.{answerNumber}
-use Rattle.answers.specs.LayoutRefusals.{verdictNumber}
-use Rattle.answers.specs.Changes.{changeNumber}
-use Rattle.answers.specs.declared.change.Change.{Change}
-use Rattle.answers.specs.declared.change.Change.the-variants as Change
-use Rattle.answers.specs.declared.layout.Verdict.{Verdict}
-use Rattle.answers.specs.declared.layout.Verdict.the-variants as Verdict
+use Rattle.answers.specs.AnswerNumbers.{answerNumber, loadNumber}
+use Rattle.answers.specs.declared.Refusal.the-variants as Refusal
+use Rattle.answers.specs.declared.Answer.{Answer}
+use Rattle.answers.specs.declared.Answer.the-variants as Answer
 use Rattle.record.specs.PowerOn.{powerOn}
 use Rattle.parts.specs.Laws.Cases.{either}
 use Rattle.parts.specs.Table.{memoryAt}
@@ -62,17 +59,15 @@ module _ (r m s : List ℕ) where
 
   -- a refused load changes nothing: not the image of an inconsistent record either
   pub inconsistent-refused : acceptedImage r ≡ true → consistent (decoded r .phase) (decoded r .control) ≡ false → loadedImage r m s ≡ refusedImage r m
-  unfolding answerNumber
   inconsistent-refused a h = loaded-done a ∙ rw (load-inconsistent (decoded r) m s h, written-back r a)
 
   -- and 23 leaves the image, the memory and the count in the same way
   pub wrong-memory-refused : acceptedImage r ≡ true → consistent (decoded r .phase) (decoded r .control) ≡ true
       → length m ≢ memoryAt (decoded r .control .device) → loadedImage r m s ≡ record { code = 23; image = r; memory = m; taken = 0 }
-  unfolding answerNumber
   wrong-memory-refused a h n = loaded-done a ∙ rw (load-wrong-memory (decoded r) m s h n, written-back r a)
 
 module _ (i m : List ℕ) (r : FrameRange) (b out : List ℕ) where
-  pub reconfigured-refused : acceptedImage i ≡ false → reconfiguredImage i m r b out ≡ keptImage Change.Inconsistent i m out
+  pub reconfigured-refused : acceptedImage i ≡ false → reconfiguredImage i m r b out ≡ keptImage (Answer.Refused Refusal.Inconsistent 0) i m out
   unfolding reconfiguredImage
   reconfigured-refused h = rw h
 
@@ -81,20 +76,16 @@ module _ (i m : List ℕ) (r : FrameRange) (b out : List ℕ) where
   reconfigured-done h = rw h
 
   -- the image of an inconsistent record is refused as bytes that are no image are
-  pub inconsistent-unchanged : acceptedImage i ≡ true → consistent (decoded i .phase) (decoded i .control) ≡ false → reconfiguredImage i m r b out ≡ keptImage Change.Inconsistent i m out
+  pub inconsistent-unchanged : acceptedImage i ≡ true → consistent (decoded i .phase) (decoded i .control) ≡ false → reconfiguredImage i m r b out ≡ keptImage (Answer.Refused Refusal.Inconsistent 0) i m out
   inconsistent-unchanged a h = reconfigured-done a ∙ rw (inconsistent-so (decoded i) m r b out h, written-back i a)
 
   abbrev Leaves : Changed → Type 0
   Leaves x = x .code ≢ 0 → (x .image ≡ i) × (x .memory ≡ m) × (x .output ≡ out)
 
-  after-leaves : acceptedImage i ≡ true → (v : Verdict) → Leaves (changedOf (reconfiguredAfter (decoded i) m r b out v) i)
-  unfolding reconfiguredAfter changeNumber verdictNumber
-  after-leaves a (Verdict.Accepted n) refused = absurd (refused refl)
-  after-leaves a Verdict.UnknownDevice refused = (written-back i a, refl, refl)
-  after-leaves a Verdict.WrongRange refused = (written-back i a, refl, refl)
-  after-leaves a Verdict.WrongMemory refused = (written-back i a, refl, refl)
-  after-leaves a (Verdict.ShortOutput n) refused = (written-back i a, refl, refl)
-  after-leaves a (Verdict.Refused c at) refused = (written-back i a, refl, refl)
+  after-leaves : acceptedImage i ≡ true → (v : Answer) → Leaves (changedOf (reconfiguredAfter (decoded i) m r b out v) i)
+  unfolding reconfiguredAfter
+  after-leaves a (Answer.Done n) refused = absurd (refused refl)
+  after-leaves a (Answer.Refused c at) refused = (written-back i a, refl, refl)
 
   -- "Every refusal leaves record, memory and out as they were"
   pub refusal-leaves : Leaves (reconfiguredImage i m r b out)

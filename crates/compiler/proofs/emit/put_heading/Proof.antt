@@ -16,20 +16,20 @@ use Rattle.compiler.proofs.emit.put_heading.Statement.{statement}
 use Rattle.compiler.proofs.emit.put_heading.Tie as tie
 
 -- the length of a frame that the code has is the part's
-part-length : (c : tie.After-value-of) → c .value-of .result ≡ lengthAt (c .before .before .before .before .before .before .before .before .before .before .before .before .before .before .before .args .device)
-part-length c = rw (c .before .frame-length .ensures) at (c .value-of .ensures)
+part-length : (c : tie.After-length-at) → c .length-at .result ≡ lengthAt (c .before .before .before .before .before .before .before .before .before .before .before .before .before .before .args .device)
+part-length c = c .length-at .ensures
 
-part-code : (c : tie.After-value-of2) → c .value-of2 .result ≡ idcodeAt (c .before .before .before .before .before .before .before .before .before .before .before .before .before .before .before .before .before .before .before .before .before .args .device)
-part-code c = rw (c .before .idcode .ensures) at (c .value-of2 .ensures)
+part-code : (c : tie.After-idcode-at) → c .idcode-at .result ≡ idcodeAt (c .before .before .before .before .before .before .before .before .before .before .before .before .before .before .before .before .before .before .before .args .device)
+part-code c = c .idcode-at .ensures
 
 begun : (c : tie.After-put-word2) → c .put-word2 .last .0 ≡ synced (now (c .before .before .before .before .before .before .before .args .output))
 begun c = c .put-word2 .ensures ∙ rw (c .before .before .before .before .put-word .ensures) (put-append (now (c .before .before .before .before .before .before .before .args .output)) 0 (0xFFFFFFFF ∷ []) (0xAA995566 ∷ []))
 
-wrote : (c : tie.After-put-write2) → let a = c .before .before .before .before .before .before .before .before .before .before .before .before .before .before .before .before .before .before .before .before .before .before .before .args in Written (synced (now (a .output))) (cursorAt 8 0) (heading (a .device)) (c .put-write2 .last .1 .0) (c .put-write2 .result)
+wrote : (c : tie.After-put-write2) → let a = c .before .before .before .before .before .before .before .before .before .before .before .before .before .before .before .before .before .before .before .before .before .args in Written (synced (now (a .output))) (cursorAt 8 0) (heading (a .device)) (c .put-write2 .last .1 .0) (c .put-write2 .result)
 unfolding size
 wrote c =
-    rw (← begun (c .before .before .before .before .before .before .before .before .before .before .before .before .before .before .before .before), ← part-length (c .before .before .before .before .before .before .before .before), ← part-code (c .before .before))
-    (joined (joined (once (c .before .before .before .before .before .before .before .before .before .before .before .before .put-command .ensures)) (once (c .before .before .before .before .before .before .put-write .ensures))) (once (c .put-write2 .ensures)))
+    rw (← begun (c .before .before .before .before .before .before .before .before .before .before .before .before .before .before), ← part-length (c .before .before .before .before .before .before .before), ← part-code (c .before .before))
+    (joined (joined (once (c .before .before .before .before .before .before .before .before .before .before .put-command .ensures)) (once (c .before .before .before .before .before .put-write .ensures))) (once (c .put-write2 .ensures)))
 
 put-word-requires : tie.Need-put-word-requires
 put-word-requires c κs = search needs
@@ -40,29 +40,23 @@ put-word-requires-2 c κs = search needs
 put-command-requires : tie.Need-put-command-requires
 put-command-requires c κs = search needs
 
-frame-length-requires : tie.Need-frame-length-requires
-frame-length-requires c κs = search needs
-
-value-of-requires : tie.Need-value-of-requires
-value-of-requires c κs = search needs
+length-at-requires : tie.Need-length-at-requires
+length-at-requires c κs = search needs
 
 sub-put-write : tie.Need-sub-put-write
-sub-put-write c = omega (arith, part-length (c .before), figures _ (c .before .before .before .before .before .before .before .before .before .before .before .before .before .before .before .before .pre .1) .length-positive)
+sub-put-write c = omega (arith, part-length (c .before), figures _ (c .before .before .before .before .before .before .before .before .before .before .before .before .before .before .before .pre .1) .length-positive)
 
 put-write-requires : tie.Need-put-write-requires
 put-write-requires c κs = search needs
 
-idcode-requires : tie.Need-idcode-requires
-idcode-requires c κs = search needs
-
-value-of-requires-2 : tie.Need-value-of-requires-2
-value-of-requires-2 c κs = search needs
+idcode-at-requires : tie.Need-idcode-at-requires
+idcode-at-requires c κs = search needs
 
 put-write-requires-2 : tie.Need-put-write-requires-2
 put-write-requires-2 c κs = search needs
 
 same-length : tie.Need-same-length
-same-length c = written-length (wrote (c .before .before)) ∙ synced-length (now (c .before .before .before .before .before .before .before .before .before .before .before .before .before .before .before .before .before .before .before .before .before .before .before .before .before .args .output))
+same-length c = written-length (wrote (c .before .before)) ∙ synced-length (now (c .before .before .before .before .before .before .before .before .before .before .before .before .before .before .before .before .before .before .before .before .before .before .before .args .output))
 
 returns : tie.Need-returns
 returns c = wrote (c .before .before)
@@ -74,12 +68,10 @@ put-heading-spec =
     put-word-requires
     put-word-requires-2
     put-command-requires
-    frame-length-requires
-    value-of-requires
+    length-at-requires
     sub-put-write
     put-write-requires
-    idcode-requires
-    value-of-requires-2
+    idcode-at-requires
     put-write-requires-2
     same-length
     returns)

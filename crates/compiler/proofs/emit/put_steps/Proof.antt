@@ -11,7 +11,7 @@ use denote.Ref.{now}
 use Rattle.parts.specs.Table.{lengthAt, countAt}
 use Rattle.layout.specs.Ownership.{owns}
 use Rattle.layout.specs.Step.{listed}
-use Rattle.layout.specs.StepReading.{stepsAt, stepOffset}
+use Rattle.layout.specs.StepReading.{deskSteps, stepOffset}
 use Rattle.layout.specs.Laws.AcceptedLayout.{isRead}
 use Rattle.layout.specs.Inner.FirstStep.{stepOf, step-bytes}
 use Rattle.stream.specs.Stream.{stepsPackets}
@@ -22,8 +22,8 @@ use Rattle.compiler.proofs.emit.put_steps.Tie as tie
 
 abbrev Inv-loop : tie.InvT-loop
 Inv-loop table output₀ device range layout count start last₀ left₀ at₀ output last left at =
-    let rest = stepsAt (lengthAt device) (countAt device) (owns range) layout left at in
-    let all = stepsAt (lengthAt device) (countAt device) (owns range) layout count start in
+    let rest = deskSteps device range layout left at in
+    let all = deskSteps device range layout count start in
     (isRead rest ≡ true) × Room output last (stepsPackets device (listed rest)) × (length output ≡ length output₀)
     × Remains output₀ last₀ (stepsPackets device (listed all)) output last (stepsPackets device (listed rest))
 
@@ -34,11 +34,10 @@ abbrev μ-loop : tie.MeasureT-loop
 first : (c : tie.After-read-step Inv-loop μ-loop) →
     let l = c .before .before .loop in
     let a = c .before .before .before .before .before .args in
-    let L = lengthAt (a .device) in
-    let rest = stepsAt L (countAt (a .device)) (owns (a .range)) (now (a .layout)) (l .left - 1) (stepOffset (c .read-step .result)) in
+    let rest = deskSteps (a .device) (a .range) (now (a .layout)) (l .left - 1) (stepOffset (c .read-step .result)) in
     (isRead rest ≡ true)
-    × (stepsPackets (a .device) (listed (stepsAt L (countAt (a .device)) (owns (a .range)) (now (a .layout)) (l .left) (l .at)))
-    ≡ stepsPackets (a .device) (stepOf L (now (a .layout)) (c .read-step .result)) ++ stepsPackets (a .device) (listed rest))
+    × (stepsPackets (a .device) (listed (deskSteps (a .device) (a .range) (now (a .layout)) (l .left) (l .at)))
+    ≡ stepsPackets (a .device) (stepOf (lengthAt (a .device)) (now (a .layout)) (c .read-step .result)) ++ stepsPackets (a .device) (listed rest))
 first c =
     let l = c .before .before .loop in
     let a = c .before .before .before .before .before .args in

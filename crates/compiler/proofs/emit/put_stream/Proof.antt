@@ -9,7 +9,7 @@ use denote.Ref.{now}
 use Rattle.parts.specs.Table.{lengthAt, countAt}
 use Rattle.layout.specs.Ownership.{owns}
 use Rattle.layout.specs.Step.{Step, listed}
-use Rattle.layout.specs.Layout.{layoutRead}
+use Rattle.layout.specs.Layout.{deskLayout}
 use Rattle.stream.specs.Stream.{stepsPackets, ending, streamPackets, stream}
 use Rattle.stream.specs.Laws.StreamLength.{size, sizes}
 use Rattle.compiler.specs.Inner.PacketWriting.{cursorAt, Room, joined, joined-room, middle-room, next-room, once}
@@ -19,7 +19,7 @@ use Rattle.compiler.proofs.emit.put_stream.Tie as tie
 
 -- the layout's steps
 abbrev steps : tie.Start → List Step
-steps s = let d = s .args .device in listed (layoutRead (lengthAt d) (countAt d) (owns (s .args .range)) (now (s .args .layout)) d)
+steps s = listed (deskLayout (s .args .device) (s .args .range) (now (s .args .layout)))
 
 fits : (s : tie.Start) → length (stream (s .args .device) (steps s)) ≤ length (now (s .args .output))
 fits s = rw (stream-read (s .args .device) _ (s .pre .1)) at (s .pre .2)

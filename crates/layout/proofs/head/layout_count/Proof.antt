@@ -4,7 +4,7 @@ use mathlib.Core.Path.{_∙_, sym}
 use native.Mathlib.Omega.{arith}
 use borrow.Author.Needs.{needs}
 use borrow.Author.Tests.{lt-ltb, le-ltb}
-use Rattle.layout.specs.Layout.{countRead, verdictOf}
+use Rattle.layout.specs.Layout.{countRead, checkAnswer}
 use Rattle.layout.proofs.head.layout_count.Statement.{statement}
 use Rattle.layout.proofs.head.layout_count.Tie as tie
 
@@ -24,14 +24,14 @@ refused-requires-2 : tie.Need-refused-requires-2
 refused-requires-2 c κs = search needs
 
 returns : tie.Need-returns
-unfolding countRead verdictOf
+unfolding countRead checkAnswer
 returns c = rw (sym (c .before .before .before .before .before .read-number .ensures) ∙ c .before .before .before .read2 .given .1) (simp (lt-ltb 4096 (c .before .before .before .read2 .given .0 .0) (omega arith)) (c .refused2 .ensures))
 
 layout-steps-requires : tie.Need-layout-steps-requires
 layout-steps-requires c κs = omega arith
 
 returns-2 : tie.Need-returns-2
-unfolding countRead verdictOf
+unfolding countRead checkAnswer
 returns-2 c = rw (sym (c .before .before .before .before .read-number .ensures) ∙ c .before .before .read .given .1) (c .refused .ensures)
 
 returns-3 : tie.Need-returns-3

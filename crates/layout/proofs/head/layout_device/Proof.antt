@@ -3,7 +3,7 @@
 use mathlib.Core.Path.{_∙_, sym}
 use borrow.Author.Needs.{needs}
 use borrow.Author.Tests.{eq-eqb, ne-eqb}
-use Rattle.layout.specs.Layout.{deviceRead, verdictOf}
+use Rattle.layout.specs.Layout.{deviceRead, checkAnswer}
 use Rattle.layout.proofs.head.layout_device.Statement.{statement}
 use Rattle.layout.proofs.head.layout_device.Tie as tie
 
@@ -23,14 +23,14 @@ refused-requires-2 : tie.Need-refused-requires-2
 refused-requires-2 c κs = search needs
 
 returns : tie.Need-returns
-unfolding deviceRead verdictOf
+unfolding deviceRead checkAnswer
 returns c = rw (sym (c .before .before .before .before .before .read-number .ensures) ∙ c .before .before .before .read2 .given .1) (simp (ne-eqb _ _ (c .before .if1 .taken)) (c .refused2 .ensures))
 
 layout-count-requires : tie.Need-layout-count-requires
 layout-count-requires c κs = search needs
 
 returns-2 : tie.Need-returns-2
-unfolding deviceRead verdictOf
+unfolding deviceRead checkAnswer
 returns-2 c = rw (sym (c .before .before .before .before .read-number .ensures) ∙ c .before .before .read .given .1) (c .refused .ensures)
 
 returns-3 : tie.Need-returns-3

@@ -11,9 +11,9 @@ use Rattle.parts.specs.Table.{lengthAt, countAt}
 use Rattle.parts.specs.Laws.Figures.{length-fits, count-fits}
 use Rattle.layout.specs.Ownership.{owns}
 use Rattle.layout.specs.StepReading.{stepAt, stepsAt}
-use Rattle.layout.specs.Layout.{endRead, verdictOf}
+use Rattle.layout.specs.Layout.{endRead, checkAnswer}
 use Rattle.layout.specs.Laws.StepViews.{write-view, multi-view}
-use Rattle.layout.specs.Inner.CheckLoops.{summed, verdict-summed, step-refused, step-write, step-multi, steps-trailing, steps-accepted}
+use Rattle.layout.specs.Inner.CheckLoops.{summed, answer-summed, step-refused, step-write, step-multi, steps-trailing, steps-accepted}
 use Rattle.layout.specs.declared.step.StepAt.the-variants as StepAt
 use Rattle.layout.proofs.head.layout_steps.Statement.{statement}
 use Rattle.layout.proofs.head.layout_steps.Tie as tie
@@ -23,49 +23,46 @@ Inv-loop device range layout count start length at₀ words₀ left₀ at words 
     let l = lengthAt device in
     let f = countAt device in
     (words + 414505 * left ≤ 12 + 414505 * count)
-    × (summed l words (endRead layout (stepsAt l f (owns range) layout left at)) ≡ verdictOf l (endRead layout (stepsAt l f (owns range) layout count start)))
+    × (summed l words (endRead layout (stepsAt l f (owns range) layout left at)) ≡ checkAnswer l (endRead layout (stepsAt l f (owns range) layout count start)))
 
 abbrev μ-loop : tie.MeasureT-loop
 μ-loop device range layout count start length at₀ words₀ left₀ at words left = left
 
-frame-length-requires : tie.Need-frame-length-requires Inv-loop μ-loop
-frame-length-requires c κs = search needs
-
-value-of-requires : tie.Need-value-of-requires Inv-loop μ-loop
-value-of-requires c κs = search needs
+length-at-requires : tie.Need-length-at-requires Inv-loop μ-loop
+length-at-requires c κs = search needs
 
 -- the words of a frame are L
-frame-words : (c : tie.After-value-of Inv-loop μ-loop) → c .value-of .result ≡ lengthAt (c .before .before .before .args .device)
-frame-words c = rw (c .before .frame-length .ensures) at (c .value-of .ensures)
+frame-words : (c : tie.After-length-at Inv-loop μ-loop) → c .length-at .result ≡ lengthAt (c .before .before .args .device)
+frame-words c = c .length-at .ensures
 
 cast-length : tie.Need-cast-length Inv-loop μ-loop
 cast-length c = search needs
 
 loop-holds : tie.Need-loop-holds Inv-loop μ-loop
-loop-holds c = (omega arith, sym (verdict-summed _ _))
+loop-holds c = (omega arith, sym (answer-summed _ _))
 
 step-at-requires : tie.Need-step-at-requires Inv-loop μ-loop
 step-at-requires c κs = search needs
 
 -- the step that was read is the one of the definition
 stepped : (c : tie.After-step-at Inv-loop μ-loop) →
-    let a = c .before .before .before .before .before .before .args in
+    let a = c .before .before .before .before .before .args in
     stepAt (lengthAt (a .device)) (countAt (a .device)) (owns (a .range)) (now (a .layout)) (c .before .before .loop .at) ≡ c .step-at .result
 stepped c = sym (c .step-at .ensures)
 
 -- a step of either kind has a count of at most F, so at most 414505 words
 write-bound : (c : tie.After-step-at Inv-loop μ-loop) (n k body next : ℕ) → c .step-at .result ≡ StepAt.FrameWrite n k body next
-    → (k ≤ 1945) × ((k + 1) * c .before .before .before .value-of .result ≤ 414498)
+    → (k ≤ 1945) × ((k + 1) * c .before .before .before .length-at .result ≤ 414498)
 write-bound c n k body next e =
-    let d = c .before .before .before .before .before .before .args .device in
+    let d = c .before .before .before .before .before .args .device in
     let v = write-view _ _ _ _ _ n k body next (stepped c ∙ e) in
     let few : k ≤ 1945 = omega (arith, v .part, count-fits d) in
     (few, mul-le-mul {n₁ = k + 1} {n₂ = 1946} {m₂ = 213} (omega arith) (omega (arith, frame-words (c .before .before .before), length-fits d)))
 
 multi-bound : (c : tie.After-step-at Inv-loop μ-loop) (k body targets next : ℕ) → c .step-at .result ≡ StepAt.MultiFrameWrite k body targets next
-    → (k ≤ 1945) × (c .before .before .before .value-of .result ≤ 213)
+    → (k ≤ 1945) × (c .before .before .before .length-at .result ≤ 213)
 multi-bound c k body targets next e =
-    let d = c .before .before .before .before .before .before .args .device in
+    let d = c .before .before .before .before .before .args .device in
     let v = multi-view _ _ _ _ _ k body targets next (stepped c ∙ e) in
     (omega (arith, v .part, count-fits d), omega (arith, frame-words (c .before .before .before), length-fits d))
 
@@ -147,8 +144,8 @@ returns-2 c =
     let l = c .before .before .before .loop in
     c .refused2 .ensures ∙ sym (steps-trailing _ _ _ _ (l .words) (l .left) (l .at) (c .before .before .loop-test .left) (c .before .if1 .taken)) ∙ l .inv .1
 
-mul-t31 : tie.Need-mul-t31 Inv-loop μ-loop
-mul-t31 c = omega (arith, c .before .before .loop .inv .0)
+mul-t30 : tie.Need-mul-t30 Inv-loop μ-loop
+mul-t30 c = omega (arith, c .before .before .loop .inv .0)
 
 returns-3 : tie.Need-returns-3 Inv-loop μ-loop
 returns-3 c =
@@ -161,8 +158,7 @@ layout-steps-spec =
     (tie.spec
     Inv-loop
     μ-loop
-    frame-length-requires
-    value-of-requires
+    length-at-requires
     cast-length
     loop-holds
     step-at-requires
@@ -186,5 +182,5 @@ layout-steps-spec =
     loop-again
     refused-requires-2
     returns-2
-    mul-t31
+    mul-t30
     returns-3)

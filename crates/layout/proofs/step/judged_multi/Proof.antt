@@ -19,35 +19,29 @@ returns : tie.Need-returns
 unfolding judgedMulti
 returns c = simp (eq-eqb _ _ (c .before .if1 .taken)) (c .refused .ensures)
 
-frame-count-requires : tie.Need-frame-count-requires
-frame-count-requires c κs = search needs
-
-value-of-requires : tie.Need-value-of-requires
-value-of-requires c κs = search needs
+count-at-requires : tie.Need-count-at-requires
+count-at-requires c κs = search needs
 
 refused-requires-2 : tie.Need-refused-requires-2
 refused-requires-2 c κs = search needs
 
 -- the frames that the test compares with are F
-frames : (c : tie.After-value-of) → c .value-of .result ≡ countAt (c .before .before .before .before .args .device)
-frames c = rw (c .before .frame-count .ensures) at (c .value-of .ensures)
+frames : (c : tie.After-count-at) → c .count-at .result ≡ countAt (c .before .before .before .args .device)
+frames c = c .count-at .ensures
 
 returns-2 : tie.Need-returns-2
 unfolding judgedMulti
-returns-2 c = simp (ne-eqb _ _ (c .before .before .before .before .if1 .left), ← frames (c .before .before), lt-ltb _ _ (c .before .if2 .taken)) (c .refused2 .ensures)
+returns-2 c = simp (ne-eqb _ _ (c .before .before .before .if1 .left), ← frames (c .before .before), lt-ltb _ _ (c .before .if2 .taken)) (c .refused2 .ensures)
 
 bytes-left-requires : tie.Need-bytes-left-requires
 bytes-left-requires c κs = search needs
 
-frame-length-requires : tie.Need-frame-length-requires
-frame-length-requires c κs = search needs
-
-value-of-requires-2 : tie.Need-value-of-requires-2
-value-of-requires-2 c κs = search needs
+length-at-requires : tie.Need-length-at-requires
+length-at-requires c κs = search needs
 
 -- the words of a frame are L
-words : (c : tie.After-value-of2) → c .value-of2 .result ≡ lengthAt (c .before .before .before .before .before .before .before .before .args .device)
-words c = rw (c .before .frame-length .ensures) at (c .value-of2 .ensures)
+words : (c : tie.After-length-at) → c .length-at .result ≡ lengthAt (c .before .before .before .before .before .before .args .device)
+words c = c .length-at .ensures
 
 cast-if3 : tie.Need-cast-if3
 cast-if3 c = search needs
@@ -61,13 +55,13 @@ refused-requires-3 c κs = search needs
 returns-3 : tie.Need-returns-3
 unfolding judgedMulti
 returns-3 c =
-    let a = c .before .before .before .before .before .before .before .before .before .before .args in
+    let a = c .before .before .before .before .before .before .before .before .args in
     simp (
-      ne-eqb _ _ (c .before .before .before .before .before .before .before .before .if1 .left),
-      ← frames (c .before .before .before .before .before .before),
-      le-ltb _ _ (c .before .before .before .before .before .if2 .left),
+      ne-eqb _ _ (c .before .before .before .before .before .before .if1 .left),
+      ← frames (c .before .before .before .before .before),
+      le-ltb _ _ (c .before .before .before .before .if2 .left),
       ← words (c .before .before),
-      lt-ltb (length (now (a .layout))) (a .body + 4 * c .before .before .value-of2 .result) (omega arith),
+      lt-ltb (length (now (a .layout))) (a .body + 4 * c .before .before .length-at .result) (omega arith),
     ) (c .refused3 .ensures)
 
 multi-targets-requires : tie.Need-multi-targets-requires
@@ -76,10 +70,10 @@ multi-targets-requires c κs = omega (arith, words (c .before))
 returns-4 : tie.Need-returns-4
 unfolding judgedMulti
 returns-4 c =
-    let a = c .before .before .before .before .before .before .before .before .before .before .args in
+    let a = c .before .before .before .before .before .before .before .before .args in
     simp (
-      ne-eqb _ _ (c .before .before .before .before .before .before .before .before .if1 .left),
-      le-ltb (countAt (a .device)) (a .count) (omega (arith, frames (c .before .before .before .before .before .before), c .before .before .before .before .before .if2 .left)),
+      ne-eqb _ _ (c .before .before .before .before .before .before .if1 .left),
+      le-ltb (countAt (a .device)) (a .count) (omega (arith, frames (c .before .before .before .before .before), c .before .before .before .before .if2 .left)),
       le-ltb (length (now (a .layout))) (a .body + 4 * lengthAt (a .device)) (omega (arith, words (c .before .before), c .before .if3 .left)),
     )
     (c .multi-targets .ensures)
@@ -90,13 +84,11 @@ judged-multi-spec =
     (tie.spec
     refused-requires
     returns
-    frame-count-requires
-    value-of-requires
+    count-at-requires
     refused-requires-2
     returns-2
     bytes-left-requires
-    frame-length-requires
-    value-of-requires-2
+    length-at-requires
     cast-if3
     mul-if3
     refused-requires-3

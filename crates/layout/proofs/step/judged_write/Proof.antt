@@ -21,15 +21,12 @@ returns : tie.Need-returns
 unfolding judgedWrite
 returns c = simp (eq-eqb _ _ (c .before .if1 .taken)) (c .refused .ensures)
 
-frame-count-requires : tie.Need-frame-count-requires
-frame-count-requires c κs = search needs
-
-value-of-requires : tie.Need-value-of-requires
-value-of-requires c κs = search needs
+count-at-requires : tie.Need-count-at-requires
+count-at-requires c κs = search needs
 
 -- the frames that the test compares with are F
-frames : (c : tie.After-value-of) → c .value-of .result ≡ countAt (c .before .before .before .before .args .device)
-frames c = rw (c .before .frame-count .ensures) at (c .value-of .ensures)
+frames : (c : tie.After-count-at) → c .count-at .result ≡ countAt (c .before .before .before .args .device)
+frames c = c .count-at .ensures
 
 cast-if2 : tie.Need-cast-if2
 cast-if2 c = search needs
@@ -43,12 +40,12 @@ refused-requires-2 c κs = search needs
 returns-2 : tie.Need-returns-2
 unfolding judgedWrite
 returns-2 c =
-    let a = c .before .before .before .before .before .before .args in
-    simp (ne-eqb _ _ (c .before .before .before .before .if1 .left), lt-ltb (countAt (a .device)) (a .first + a .count) (omega (arith, frames (c .before .before)))) (c .refused2 .ensures)
+    let a = c .before .before .before .before .before .args in
+    simp (ne-eqb _ _ (c .before .before .before .if1 .left), lt-ltb (countAt (a .device)) (a .first + a .count) (omega (arith, frames (c .before .before)))) (c .refused2 .ensures)
 
 -- the run ends in the part
 inside : (c : tie.Else2) →
-    let a = c .before .before .before .before .before .args in
+    let a = c .before .before .before .before .args in
     a .first + a .count ≤ countAt (a .device)
 inside c = omega (arith, frames (c .before))
 
@@ -61,17 +58,14 @@ refused-requires-3 c κs = search needs
 returns-3 : tie.Need-returns-3
 unfolding judgedWrite
 returns-3 c =
-    simp (ne-eqb _ _ (c .before .before .before .before .before .before .if1 .left), le-ltb _ _ (inside (c .before .before .before)), sym (c .before .before .owns-run .ensures) ∙ not-true _ (c .before .if3 .taken)) (c .refused3 .ensures)
+    simp (ne-eqb _ _ (c .before .before .before .before .before .if1 .left), le-ltb _ _ (inside (c .before .before .before)), sym (c .before .before .owns-run .ensures) ∙ not-true _ (c .before .if3 .taken)) (c .refused3 .ensures)
 
-frame-length-requires : tie.Need-frame-length-requires
-frame-length-requires c κs = search needs
-
-value-of-requires-2 : tie.Need-value-of-requires-2
-value-of-requires-2 c κs = search needs
+length-at-requires : tie.Need-length-at-requires
+length-at-requires c κs = search needs
 
 -- the words of a frame are L
-words : (c : tie.After-value-of2) → c .value-of2 .result ≡ lengthAt (c .before .before .before .before .before .before .before .before .before .args .device)
-words c = rw (c .before .frame-length .ensures) at (c .value-of2 .ensures)
+words : (c : tie.After-length-at) → c .length-at .result ≡ lengthAt (c .before .before .before .before .before .before .before .args .device)
+words c = c .length-at .ensures
 
 cast-size : tie.Need-cast-size
 cast-size c = search needs
@@ -81,10 +75,10 @@ mul-size c = search needs
 
 mul-size-2 : tie.Need-mul-size-2
 mul-size-2 c =
-    let a = c .before .before .before .before .before .before .before .before .before .args in
-    let h : c .value-of2 .result ≤ 213 = omega (arith, words c, length-fits (a .device)) in
-    let k : a .count ≤ 1945 = omega (arith, inside (c .before .before .before .before), count-fits (a .device)) in
-    omega (arith, mul-le-mul {n₁ = 4 * c .value-of2 .result} {n₂ = 852} {m₂ = 1945} (omega arith) k)
+    let a = c .before .before .before .before .before .before .before .args in
+    let h : c .length-at .result ≤ 213 = omega (arith, words c, length-fits (a .device)) in
+    let k : a .count ≤ 1945 = omega (arith, inside (c .before .before .before), count-fits (a .device)) in
+    omega (arith, mul-le-mul {n₁ = 4 * c .length-at .result} {n₂ = 852} {m₂ = 1945} (omega arith) k)
 
 bytes-left-requires : tie.Need-bytes-left-requires
 bytes-left-requires c κs = search needs
@@ -95,28 +89,28 @@ refused-requires-4 c κs = search needs
 returns-4 : tie.Need-returns-4
 unfolding judgedWrite
 returns-4 c =
-    let a = c .before .before .before .before .before .before .before .before .before .before .before .before .args in
-    let l = c .before .before .before .value-of2 .result in
+    let a = c .before .before .before .before .before .before .before .before .before .before .args in
+    let l = c .before .before .before .length-at .result in
     simp (
-      ne-eqb _ _ (c .before .before .before .before .before .before .before .before .before .before .if1 .left),
-      le-ltb _ _ (inside (c .before .before .before .before .before .before .before)),
-      sym (c .before .before .before .before .before .before .owns-run .ensures) ∙ not-false _ (c .before .before .before .before .before .if3 .left),
+      ne-eqb _ _ (c .before .before .before .before .before .before .before .before .if1 .left),
+      le-ltb _ _ (inside (c .before .before .before .before .before .before)),
+      sym (c .before .before .before .before .before .owns-run .ensures) ∙ not-false _ (c .before .before .before .before .if3 .left),
       ← words (c .before .before .before),
       lt-ltb (length (now (a .layout))) (a .body + 4 * l * a .count) (omega (arith, c .before .before .bytes-left .ensures)),
     ) (c .refused4 .ensures)
 
-add-t22 : tie.Need-add-t22
-add-t22 c = search needs
+add-next : tie.Need-add-next
+add-next c = search needs
 
 returns-5 : tie.Need-returns-5
 unfolding judgedWrite
 returns-5 c =
-    let a = c .before .before .before .before .before .before .before .before .before .before .before .args in
-    let l = c .before .before .value-of2 .result in
+    let a = c .before .before .before .before .before .before .before .before .before .args in
+    let l = c .before .before .length-at .result in
     simp (
-      ne-eqb _ _ (c .before .before .before .before .before .before .before .before .before .if1 .left),
-      le-ltb _ _ (inside (c .before .before .before .before .before .before)),
-      sym (c .before .before .before .before .before .owns-run .ensures) ∙ not-false _ (c .before .before .before .before .if3 .left),
+      ne-eqb _ _ (c .before .before .before .before .before .before .before .if1 .left),
+      le-ltb _ _ (inside (c .before .before .before .before .before)),
+      sym (c .before .before .before .before .owns-run .ensures) ∙ not-false _ (c .before .before .before .if3 .left),
       ← words (c .before .before),
       le-ltb (length (now (a .layout))) (a .body + 4 * l * a .count) (omega (arith, c .before .bytes-left .ensures)),
     )
@@ -127,8 +121,7 @@ judged-write-spec =
     (tie.spec
     refused-requires
     returns
-    frame-count-requires
-    value-of-requires
+    count-at-requires
     cast-if2
     add-if2
     refused-requires-2
@@ -136,13 +129,12 @@ judged-write-spec =
     owns-run-requires
     refused-requires-3
     returns-3
-    frame-length-requires
-    value-of-requires-2
+    length-at-requires
     cast-size
     mul-size
     mul-size-2
     bytes-left-requires
     refused-requires-4
     returns-4
-    add-t22
+    add-next
     returns-5)

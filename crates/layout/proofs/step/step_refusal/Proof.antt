@@ -13,8 +13,8 @@ enum-told-2 c = search needs
 enum-known-step : tie.Need-enum-known-step
 enum-known-step c = search needs
 
-cause-number-requires : tie.Need-cause-number-requires
-cause-number-requires c κs = search needs
+refusal-number-requires : tie.Need-refusal-number-requires
+refusal-number-requires c κs = search needs
 
 returns : tie.Need-returns
 returns c = search needs
@@ -23,7 +23,7 @@ returns-2 : tie.Need-returns-2
 returns-2 c = search needs
 
 returns-3 : tie.Need-returns-3
-returns-3 c = rw (c .before .before .step .given .1) (c .cause-number .ensures)
+returns-3 c = rw (c .before .before .step .given .1) (c .refusal-number .ensures)
 
 pub step-refusal-spec : {M : Type 1} → statement M
-step-refusal-spec = tie.close (tie.spec enum-told enum-told-2 enum-known-step cause-number-requires returns returns-2 returns-3)
+step-refusal-spec = tie.close (tie.spec enum-told enum-told-2 enum-known-step refusal-number-requires returns returns-2 returns-3)

@@ -22,27 +22,21 @@ Inv-loop device range layout count body frames targets at₀ low₀ left₀ at l
 abbrev μ-loop : tie.MeasureT-loop
 μ-loop device range layout count body frames targets at₀ low₀ left₀ at low left = left
 
-frame-count-requires : tie.Need-frame-count-requires Inv-loop μ-loop
-frame-count-requires c κs = search needs
+count-at-requires : tie.Need-count-at-requires Inv-loop μ-loop
+count-at-requires c κs = search needs
 
-value-of-requires : tie.Need-value-of-requires Inv-loop μ-loop
-value-of-requires c κs = search needs
-
-frame-length-requires : tie.Need-frame-length-requires Inv-loop μ-loop
-frame-length-requires c κs = search needs
-
-value-of-requires-2 : tie.Need-value-of-requires-2 Inv-loop μ-loop
-value-of-requires-2 c κs = search needs
+length-at-requires : tie.Need-length-at-requires Inv-loop μ-loop
+length-at-requires c κs = search needs
 
 -- the words of a frame are L
-words : (c : tie.After-value-of2 Inv-loop μ-loop) → c .value-of2 .result ≡ lengthAt (c .before .before .before .before .before .args .device)
-words c = rw (c .before .frame-length .ensures) at (c .value-of2 .ensures)
+words : (c : tie.After-length-at Inv-loop μ-loop) → c .length-at .result ≡ lengthAt (c .before .before .before .args .device)
+words c = c .length-at .ensures
 
 cast-targets : tie.Need-cast-targets Inv-loop μ-loop
 cast-targets c = search needs
 
 mul-targets : tie.Need-mul-targets Inv-loop μ-loop
-mul-targets c = omega (arith, words c, length-fits (c .before .before .before .before .before .args .device))
+mul-targets c = omega (arith, words c, length-fits (c .before .before .before .args .device))
 
 add-targets : tie.Need-add-targets Inv-loop μ-loop
 add-targets c = omega (arith, words c)
@@ -58,19 +52,18 @@ judged-target-requires c κs = search needs
 
 -- the target that was judged is the one of the definition
 judged : (c : tie.After-judged-target Inv-loop μ-loop) →
-    let a = c .before .before .before .before .before .before .before .before .before .args in
+    let a = c .before .before .before .before .before .before .before .args in
     let l = c .before .before .before .loop in
     judgedTarget (countAt (a .device)) (owns (a .range)) (l .low) (numberAt (now (a .layout)) (l .at)) ≡ c .judged-target .result
 judged c =
-    let frames = rw (c .before .before .before .before .before .before .before .frame-count .ensures) at (c .before .before .before .before .before .before .value-of .ensures) in
-    sym (rw (frames, c .before .read-number .ensures) at (c .judged-target .ensures))
+    sym (rw (c .before .before .before .before .before .count-at .ensures, c .before .read-number .ensures) at (c .judged-target .ensures))
 
 enum-known-target : tie.Need-enum-known-target Inv-loop μ-loop
 enum-known-target c = search needs
 
 returns : tie.Need-returns Inv-loop μ-loop
 returns c =
-    let a = c .before .before .before .before .before .before .before .before .before .before .before .before .args in
+    let a = c .before .before .before .before .before .before .before .before .before .before .args in
     let l = c .before .before .before .before .before .before .loop in
     sym (target-refused _ _ _ _ (a .count) (a .body) (l .left) (l .low) (l .at) _ (c .before .before .before .before .before .loop-test .taken) (judged (c .before .before .before) ∙ c .before .target .given .1)) ∙ l .inv
 
@@ -91,7 +84,7 @@ loop-less c = search needs
 
 loop-again : tie.Need-loop-again Inv-loop μ-loop
 loop-again c =
-    let a = c .before .before .before .before .before .before .before .before .before .before .before .before .args in
+    let a = c .before .before .before .before .before .before .before .before .before .before .args in
     let l = c .before .before .before .before .before .before .loop in
     sym (target-next _ _ _ _ (a .count) (a .body) (l .left) (l .low) (l .at) _ _ (c .before .before .before .before .before .loop-test .taken) (judged (c .before .before .before) ∙ c .before .target2 .given .1)) ∙ l .inv
 
@@ -107,10 +100,8 @@ multi-targets-spec =
     (tie.spec
     Inv-loop
     μ-loop
-    frame-count-requires
-    value-of-requires
-    frame-length-requires
-    value-of-requires-2
+    count-at-requires
+    length-at-requires
     cast-targets
     mul-targets
     add-targets

@@ -29,6 +29,9 @@ search-run-requires c κs = rw (c .run-at .ensures) (runs-fit _ (c .before .befo
 enum-known-s : tie.Need-enum-known-s Inv-loop μ-loop
 enum-known-s c = search needs
 
+cast-t10 : tie.Need-cast-t10 Inv-loop μ-loop
+cast-t10 c = search needs
+
 returns : tie.Need-returns Inv-loop μ-loop
 returns c =
     let l = c .before .before .before .before .before .before .loop in
@@ -61,4 +64,4 @@ returns-2 c =
 pub address-in-spec : {M : Type 1} → statement M
 address-in-spec =
     tie.close
-    (tie.spec Inv-loop μ-loop loop-holds run-at-requires search-run-requires enum-known-s returns enum-known-s-2 add-i loop-less loop-again returns-2)
+    (tie.spec Inv-loop μ-loop loop-holds run-at-requires search-run-requires enum-known-s cast-t10 returns enum-known-s-2 add-i loop-less loop-again returns-2)

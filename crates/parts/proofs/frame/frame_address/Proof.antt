@@ -16,8 +16,8 @@ enum-known-p c = search needs
 address-in-requires : tie.Need-address-in-requires
 address-in-requires c κs = known-limits _ _ (sym (c .before .before .before .part-of .ensures) ∙ c .before .p .given .1)
 
-enum-told : tie.Need-enum-told
-enum-told c = search needs
+enum-known-p-2 : tie.Need-enum-known-p-2
+enum-known-p-2 c = search needs
 
 returns : tie.Need-returns
 returns c =
@@ -25,7 +25,7 @@ returns c =
     ∙ address-known _ _ (c .before .before .before .before .part-of .ensures) _ (c .before .before .before .before .before .args .number) (c .before .before .p .given .1)
 
 returns-2 : tie.Need-returns-2
-returns-2 c = address-unknown _ _ (c .before .before .part-of .ensures) _ (c .enum-told .given .1)
+returns-2 c = address-unknown _ _ (c .before .before .before .part-of .ensures) _ _ (c .before .p2 .given .1)
 
 pub frame-address-spec : {M : Type 1} → statement M
-frame-address-spec = tie.close (tie.spec part-of-requires enum-known-p address-in-requires enum-told returns returns-2)
+frame-address-spec = tie.close (tie.spec part-of-requires enum-known-p address-in-requires enum-known-p-2 returns returns-2)

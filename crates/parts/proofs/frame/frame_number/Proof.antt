@@ -19,8 +19,8 @@ address-fields-requires c κs = search needs
 number-in-requires : tie.Need-number-in-requires
 number-in-requires c κs = known-limits _ _ (sym (c .before .before .before .before .part-of .ensures) ∙ c .before .before .p .given .1)
 
-enum-told : tie.Need-enum-told
-enum-told c = search needs
+enum-known-p-2 : tie.Need-enum-known-p-2
+enum-known-p-2 c = search needs
 
 returns : tie.Need-returns
 returns c =
@@ -28,7 +28,7 @@ returns c =
     ∙ number-known _ _ (c .before .before .before .before .before .part-of .ensures) _ (c .before .before .before .before .before .before .args .address) (c .before .before .before .p .given .1)
 
 returns-2 : tie.Need-returns-2
-returns-2 c = number-unknown _ _ (c .before .before .part-of .ensures) _ (c .enum-told .given .1)
+returns-2 c = number-unknown _ _ (c .before .before .before .part-of .ensures) _ _ (c .before .p2 .given .1)
 
 pub frame-number-spec : {M : Type 1} → statement M
-frame-number-spec = tie.close (tie.spec part-of-requires enum-known-p address-fields-requires number-in-requires enum-told returns returns-2)
+frame-number-spec = tie.close (tie.spec part-of-requires enum-known-p address-fields-requires number-in-requires enum-known-p-2 returns returns-2)

@@ -7,7 +7,7 @@ use native.Mathlib.Omega.{arith}
 use borrow.Author.Needs.{needs}
 use Rattle.parts.specs.Columns.{Column, columnsFrom}
 use Rattle.parts.specs.FrameAddress.{addressIn}
-use Rattle.parts.specs.declared.frame.AddressAnswer.the-variants as AddressAnswer
+use Rattle.answers.specs.declared.Answer.the-variants as Answer
 use Rattle.parts.specs.Inner.ColumnRuns.{resumed, run-here, run-later, run-end, run-past}
 use Rattle.parts.proofs.frame.search_run.Statement.{statement}
 use Rattle.parts.proofs.frame.search_run.Tie as tie
@@ -43,7 +43,7 @@ returns : tie.Need-returns Inv-loop μ-loop
 unfolding resumed
 returns c rest =
     let l = c .before .before .before .before .before .before .loop in
-    sym (l .inv .2 rest) ∙ run-here _ _ _ _ rest (l .i) (l .left) (omega arith) (omega arith) ∙ ap AddressAnswer.Address (sym (c .address-of .ensures))
+    sym (l .inv .2 rest) ∙ run-here _ _ _ _ rest (l .i) (l .left) (omega arith) (omega arith) ∙ ap Answer.Done (sym (c .address-of .ensures))
 
 add-i : tie.Need-add-i Inv-loop μ-loop
 add-i c = omega arith

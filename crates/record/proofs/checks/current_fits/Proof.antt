@@ -8,18 +8,15 @@ use Rattle.record.proofs.checks.current_fits.Tie as tie
 enum-known-current : tie.Need-enum-known-current
 enum-known-current c = search needs
 
-frame-count-requires : tie.Need-frame-count-requires
-frame-count-requires c κs = search needs
-
-value-of-requires : tie.Need-value-of-requires
-value-of-requires c κs = search needs
+count-at-requires : tie.Need-count-at-requires
+count-at-requires c κs = search needs
 
 enum-told : tie.Need-enum-told
 enum-told c = search needs
 
 returns : tie.Need-returns
 unfolding currentFits
-returns c = simp (c .value-of .ensures, c .before .frame-count .ensures, c .before .before .before .current .given .1)
+returns c = simp (c .count-at .ensures, c .before .before .current .given .1)
 
 returns-2 : tie.Need-returns-2
 unfolding currentFits
@@ -27,4 +24,4 @@ returns-2 c = simp (c .enum-told .given .1)
 
 pub current-fits-spec : {M : Type 1} → statement M
 current-fits-spec =
-    tie.close (tie.spec enum-known-current frame-count-requires value-of-requires enum-told returns returns-2)
+    tie.close (tie.spec enum-known-current count-at-requires enum-told returns returns-2)

@@ -11,23 +11,20 @@ use Rattle.record.proofs.checks.data_fits.Tie as tie
 is-fdri-requires : tie.Need-is-fdri-requires
 is-fdri-requires c κs = search needs
 
-frame-length-requires : tie.Need-frame-length-requires
-frame-length-requires c κs = search needs
-
-value-of-requires : tie.Need-value-of-requires
-value-of-requires c κs = search needs
+length-at-requires : tie.Need-length-at-requires
+length-at-requires c κs = search needs
 
 cast-length : tie.Need-cast-length
 cast-length c = search needs
 
 -- the length that the tests compare with is L
-length : (c : tie.After-value-of) → c .value-of .result ≡ lengthAt (c .before .before .before .before .args .control .device)
-length c = rw (c .before .frame-length .ensures) at (c .value-of .ensures)
+length : (c : tie.After-length-at) → c .length-at .result ≡ lengthAt (c .before .before .before .args .control .device)
+length c = c .length-at .ensures
 
 returns : tie.Need-returns
 unfolding dataFits
 returns c =
-    simp (← c .before .before .before .before .is-fdri .ensures, c .before .before .before .if1 .taken, ← length (c .before), le-ltb _ _ (c .if2 .taken))
+    simp (← c .before .before .before .is-fdri .ensures, c .before .before .if1 .taken, ← length (c .before), le-ltb _ _ (c .if2 .taken))
 
 add-result : tie.Need-add-result
 add-result c = search needs
@@ -38,7 +35,7 @@ rem-result c = search needs
 returns-2 : tie.Need-returns-2
 unfolding dataFits
 returns-2 c =
-    simp (← c .before .before .before .before .is-fdri .ensures, c .before .before .before .if1 .taken, ← length (c .before), lt-ltb _ _ (c .if2 .left))
+    simp (← c .before .before .before .is-fdri .ensures, c .before .before .if1 .taken, ← length (c .before), lt-ltb _ _ (c .if2 .left))
 
 is-mfwr-requires : tie.Need-is-mfwr-requires
 is-mfwr-requires c κs = search needs
@@ -62,8 +59,7 @@ data-fits-spec =
     tie.close
     (tie.spec
     is-fdri-requires
-    frame-length-requires
-    value-of-requires
+    length-at-requires
     cast-length
     returns
     add-result

@@ -1,57 +1,28 @@
--- `reference::steps::apply_list` meets its contract: the steps after the step count are those of the layout.
--- From the law on the step count at offset 2, once the number there is known; it is never a refusal.
-use mathlib.Core.Path.{_∙_, sym}
+-- `reference::steps::apply_list` meets its contract: the steps that the layout lists are those of the layout.
+-- From the law on the list of steps of an accepted layout.
+use mathlib.Core.Path.{_∙_, ap}
 use borrow.Author.Needs.{needs}
 use denote.Ref.{now}
-use Rattle.parts.specs.Table.{lengthAt, countAt}
-use Rattle.layout.specs.Ownership.{owns}
-use Rattle.layout.specs.Laws.AcceptedLayout.{steps-from, none-from, machine-read}
+use Rattle.layout.specs.Laws.AcceptedLayout.{steps-listed, machine-read}
 use Rattle.reference.proofs.steps.apply_list.Statement.{statement}
 use Rattle.reference.proofs.steps.apply_list.Tie as tie
 
-read-number-requires : tie.Need-read-number-requires
-read-number-requires c κs = search needs
-
-enum-told : tie.Need-enum-told
-enum-told c = search needs
-
-enum-known-count : tie.Need-enum-known-count
-enum-known-count c = search needs
+step-list-requires : tie.Need-step-list-requires
+step-list-requires c κs = search needs
 
 apply-steps-requires : tie.Need-apply-steps-requires
 apply-steps-requires c κs =
-    let s = c .before .before .before .before .before .before .before in
-    let d = s .args .device in
-    let number = sym (c .before .before .before .before .read-number .ensures) ∙ c .before .before .count .given .1 in
-    (rw (steps-from (lengthAt d) (countAt d) d (owns (s .args .range)) (now (s .args .layout)) (s .pre .0) (s .pre .1) _ _ number) (s .pre .1), s .pre .2)
-
-returns : tie.Need-returns
-returns c =
-    let s = c .before .before .before .before .before in
-    let d = s .args .device in
-    none-from (lengthAt d) (countAt d) d (owns (s .args .range)) (now (s .args .layout)) (s .pre .0) (s .pre .1) _ _
-    (sym (c .before .before .read-number .ensures) ∙ c .enum-told .given .1)
+    let s = c .before .before .before .before in
+    rw (c .before .step-list .ensures, steps-listed (s .args .device) (s .args .range) (now (s .args .layout)) (s .pre .0) (s .pre .1)) (s .pre .1, s .pre .2)
 
 same-length : tie.Need-same-length
 same-length c = search needs
 
-returns-2 : tie.Need-returns-2
-returns-2 c =
-    let s = c .before .before .before .before .before .before .before .before .before .before in
-    let d = s .args .device in
-    let number = sym (c .before .before .before .before .before .before .before .read-number .ensures) ∙ c .before .before .before .before .before .count .given .1 in
-    c .before .before .apply-steps .ensures
-    ∙ rw (steps-from (lengthAt d) (countAt d) d (owns (s .args .range)) (now (s .args .layout)) (s .pre .0) (s .pre .1) _ _ number)
-    (machine-read d (s .args .range) (now (s .args .layout)) (now (s .args .memory)) (s .pre .1))
+returns : tie.Need-returns
+returns c =
+    let s = c .before .before .before .before .before .before .before in
+    (rw (c .before .before .before .before .step-list .ensures, steps-listed (s .args .device) (s .args .range) (now (s .args .layout)) (s .pre .0) (s .pre .1)) at (c .before .before .apply-steps .ensures))
+    ∙ machine-read (s .args .device) (s .args .range) (now (s .args .layout)) (now (s .args .memory)) (s .pre .1)
 
 pub apply-list-spec : {M : Type 1} → statement M
-apply-list-spec =
-    tie.close
-    (tie.spec
-    read-number-requires
-    enum-told
-    enum-known-count
-    apply-steps-requires
-    returns
-    same-length
-    returns-2)
+apply-list-spec = tie.close (tie.spec step-list-requires apply-steps-requires same-length returns)

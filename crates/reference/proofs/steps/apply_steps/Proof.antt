@@ -9,7 +9,7 @@ use denote.Ref.{now}
 use Rattle.parts.specs.Table.{lengthAt, countAt}
 use Rattle.parts.specs.Laws.Figures.{length-fits, memory-size}
 use Rattle.layout.specs.Ownership.{owns}
-use Rattle.layout.specs.StepReading.{stepsAt}
+use Rattle.layout.specs.StepReading.{deskSteps}
 use Rattle.layout.specs.ReferenceMachine.{madeOf}
 use Rattle.layout.specs.Laws.AcceptedLayout.{isRead}
 use Rattle.layout.specs.Inner.FirstStep.{step-bytes}
@@ -19,28 +19,25 @@ use Rattle.reference.proofs.steps.apply_steps.Tie as tie
 
 abbrev Inv-loop : tie.InvT-loop
 Inv-loop device range layout count start memory₀ l left₀ at₀ memory left at =
-    (isRead (stepsAt (lengthAt device) (countAt device) (owns range) layout left at) ≡ true) × (length memory ≡ length memory₀)
-    × (madeOf (lengthAt device) (stepsAt (lengthAt device) (countAt device) (owns range) layout left at) memory
-    ≡ madeOf (lengthAt device) (stepsAt (lengthAt device) (countAt device) (owns range) layout count start) memory₀)
+    (isRead (deskSteps device range layout left at) ≡ true) × (length memory ≡ length memory₀)
+    × (madeOf (lengthAt device) (deskSteps device range layout left at) memory
+    ≡ madeOf (lengthAt device) (deskSteps device range layout count start) memory₀)
 
 abbrev μ-loop : tie.MeasureT-loop
 μ-loop device range layout count start memory₀ l left₀ at₀ memory left at = left
 
 -- the length of a frame that the code has is the part's
-part-length : (c : tie.After-value-of Inv-loop μ-loop) → c .value-of .result ≡ lengthAt (c .before .before .before .before .args .device)
-part-length c = rw (c .before .frame-length .ensures) at (c .value-of .ensures)
+part-length : (c : tie.After-length-at Inv-loop μ-loop) → c .length-at .result ≡ lengthAt (c .before .before .before .args .device)
+part-length c = c .length-at .ensures
 
-frame-length-requires : tie.Need-frame-length-requires Inv-loop μ-loop
-frame-length-requires c κs = search needs
-
-value-of-requires : tie.Need-value-of-requires Inv-loop μ-loop
-value-of-requires c κs = search needs
+length-at-requires : tie.Need-length-at-requires Inv-loop μ-loop
+length-at-requires c κs = search needs
 
 cast-l : tie.Need-cast-l Inv-loop μ-loop
 cast-l c = search needs
 
 loop-holds : tie.Need-loop-holds Inv-loop μ-loop
-loop-holds c = (c .before .before .before .before .pre .0, refl, refl)
+loop-holds c = (c .before .before .before .pre .0, refl, refl)
 
 read-step-requires : tie.Need-read-step-requires Inv-loop μ-loop
 read-step-requires c κs = search needs
@@ -48,7 +45,7 @@ read-step-requires c κs = search needs
 apply-step-requires : tie.Need-apply-step-requires Inv-loop μ-loop
 apply-step-requires c κs =
     let l = c .before .before .before .loop in
-    let s = c .before .before .before .before .before .before .before .before in
+    let s = c .before .before .before .before .before .before .before in
     let d = s .args .device in
     let e = sym (c .before .read-step .ensures) in
     let bytes = step-bytes (lengthAt d) (countAt d) (owns (s .args .range)) (now (s .args .layout)) (l .at) _ e in
@@ -65,7 +62,7 @@ loop-less c = omega arith
 loop-again : tie.Need-loop-again Inv-loop μ-loop
 loop-again c =
     let l = c .before .before .before .before .before .before .loop in
-    let s = c .before .before .before .before .before .before .before .before .before .before .before in
+    let s = c .before .before .before .before .before .before .before .before .before .before in
     let d = s .args .device in
     let done = step-made (lengthAt d) (countAt d) (owns (s .args .range)) (now (s .args .layout)) (l .left) (l .at) _ (l .memory) (sym (c .before .before .before .before .read-step .ensures)) (omega arith) (l .inv .0) in
     let call = c .before .before .apply-step in
@@ -77,7 +74,7 @@ same-length c = c .before .loop .inv .1
 returns : tie.Need-returns Inv-loop μ-loop
 returns c =
     let l = c .before .loop in
-    let s = c .before .before .before .before .before .before in
+    let s = c .before .before .before .before .before in
     let d = s .args .device in
     sym (none-done (lengthAt d) (countAt d) (owns (s .args .range)) (now (s .args .layout)) (l .left) (l .at) (l .memory) (omega arith)) ∙ l .inv .2
 
@@ -87,8 +84,7 @@ apply-steps-spec =
     (tie.spec
     Inv-loop
     μ-loop
-    frame-length-requires
-    value-of-requires
+    length-at-requires
     cast-l
     loop-holds
     read-step-requires

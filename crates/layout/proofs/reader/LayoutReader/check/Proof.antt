@@ -5,8 +5,8 @@ use contract.Running.{givenOf, tablesOf}
 use denote.Enum.Laws as EL
 use denote.Triple.Spec.{tripleOf}
 use denote.Triple.Table.{cited}
-use Rattle.answers.proofs.layout.Verdict as S
-use Rattle.answers.proofs.layout.Verdict.Laws as S′
+use Rattle.answers.proofs.Answer as S
+use Rattle.answers.proofs.Answer.Laws as S′
 use Rattle.layout.specs.Layout.{checkAt}
 use Rattle.layout.specs.LayoutReader.{check}
 use Rattle.layout.proofs.head.check_at as callee
