@@ -34,7 +34,7 @@ compiles v out = record { answer = v; output = out }
 abbrev pub overwritten : List ℕ → List ℕ → List ℕ
 overwritten bytes out = bytes ++ drop (length bytes) out
 
--- what a check's verdict leads to
+-- what a check's answer leads to
 unfoldable pub compiledAfter : Answer → ℕ → FrameRange → List ℕ → List ℕ → Compiled
 compiledAfter (Answer.Done n) d r b out =
     cond (ltb (length out) n) (compiles (Answer.Refused Refusal.ShortOutput n) out) (compiles (Answer.Done n) (overwritten (streamFor d r b) out))

@@ -1,3 +1,4 @@
+pub mod PhaseTests  -- whether a phase waits for sync, takes words, or is stopped
 pub mod CurrentFrame  -- the frame that an address names
 pub mod ControlState  -- the control state with one part of it replaced, and what a word can leave
 pub mod RegisterWrites  -- a word written to a register, and fed to the CRC

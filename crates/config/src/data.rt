@@ -23,7 +23,8 @@ ghost use mathlib.Core.Path.{_≡_};
 ghost use Prim.Native.Nat.{_<_};
 ghost use Rattle.config.specs.CurrentFrame.{named};
 ghost use Rattle.config.specs.ControlState.{withRegisters, withFlags, withCurrent};
-ghost use Rattle.config.specs.DataWords.{ended, onward, put, checked, crcWord, farWord, cmdWord, stepped, frameStored, fdriWord, mfwrStored, mfwrWord, idcodeWord, flrWord, dataWord};
+ghost use Rattle.config.specs.DataWords.{ended, onward, put, crcWord, farWord, cmdWord, stepped};
+ghost use Rattle.config.specs.DataWords.{frameStored, fdriWord, mfwrStored, mfwrWord, idcodeWord, flrWord, dataWord};
 
 fn with_registers(registers: Registers, control: Control) -> Control
     ensures { λ r. ⌜ r ≡ withRegisters registers control ⌝ }

@@ -104,8 +104,43 @@ mod data; // data.rt: a data word to each register
 mod stream; // stream.rt: the hunt, and words from bytes
 
 ghost use mathlib.Core.Path.{_≡_};
+ghost use Rattle.config.specs.PhaseTests.{isHunting, isStopped};
 ghost use Rattle.config.specs.DataWords.{word};
 ghost use Rattle.config.specs.StreamBytes.{byte};
+
+// Waiting for sync, with any bytes remembered.
+pub fn is_hunting(phase: Phase) -> bool
+    ensures { λ r. ⌜ r ≡ isHunting phase ⌝ }
+{
+    match phase {
+        Phase::Hunting(_) => true,
+        Phase::Header(_) => false,
+        Phase::Data {
+            register: _,
+            left: _,
+            filled: _,
+        } => false,
+        Phase::Crc => false,
+        Phase::Stopped(_) => false,
+    }
+}
+
+// Stopped: no byte is taken any more.
+pub fn is_stopped(phase: Phase) -> bool
+    ensures { λ r. ⌜ r ≡ isStopped phase ⌝ }
+{
+    match phase {
+        Phase::Hunting(_) => false,
+        Phase::Header(_) => false,
+        Phase::Data {
+            register: _,
+            left: _,
+            filled: _,
+        } => false,
+        Phase::Crc => false,
+        Phase::Stopped(_) => true,
+    }
+}
 
 // A whole word; hunting, which takes bytes, and stopped, which takes nothing, are handed back as they are.
 pub fn word(phase: Phase, control: Control, w: u32) -> Transition

@@ -3,21 +3,13 @@
 -- ended the bad word. A stopped device takes nothing and answers the same number."
 use Prim.Native.Nat.{ℕ, _+_}
 use mathlib.Core.List.{List, [], _∷_}
-use mathlib.Core.Bool.{Bool, true, false, cond}
+use mathlib.Core.Bool.{cond}
 use Rattle.parts.specs.Table.{lengthAt}
+use Rattle.config.specs.PhaseTests.{isStopped}
 use Rattle.config.specs.StreamBytes.{byte}
-use Rattle.config.specs.declared.Phase.{Phase}
-use Rattle.config.specs.declared.Phase.the-variants as Phase
 use Rattle.config.specs.declared.Transition.{Transition}
 use Rattle.loader.specs.EventEffects.{buffered, stored}
 use Rattle.record.specs.declared.Record.{Record}
-
-unfoldable pub isStopped : Phase → Bool
-isStopped (Phase.Hunting b) = false
-isStopped (Phase.Header o) = false
-isStopped (Phase.Data r left filled) = false
-isStopped Phase.Crc = false
-isStopped (Phase.Stopped s) = true
 
 -- what the control machine makes of a byte
 abbrev pub byteTransition : Record → ℕ → Transition

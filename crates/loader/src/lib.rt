@@ -7,9 +7,10 @@ use answers::LoadAnswer;
 use answers::Refusal;
 use config::Control;
 use config::Phase;
+use config::is_stopped;
 use record::Record;
 ghost use mathlib.Core.Path.{_≡_};
-ghost use Rattle.loader.specs.Run.{isStopped, run};
+ghost use Rattle.loader.specs.Run.{run};
 ghost use Rattle.loader.specs.Load.{answerOf, load};
 
 // The record after a load, the answer, and the bytes taken from this piece.
@@ -38,22 +39,6 @@ fn answer_of(phase: Phase) -> LoadAnswer
         } => LoadAnswer::Done,
         Phase::Crc => LoadAnswer::Done,
         Phase::Stopped(stop) => LoadAnswer::Stopped(stop),
-    }
-}
-
-fn is_stopped(phase: Phase) -> bool
-    ensures { λ r. ⌜ r ≡ isStopped phase ⌝ }
-{
-    match phase {
-        Phase::Hunting(_) => false,
-        Phase::Header(_) => false,
-        Phase::Data {
-            register: _,
-            left: _,
-            filled: _,
-        } => false,
-        Phase::Crc => false,
-        Phase::Stopped(_) => true,
     }
 }
 

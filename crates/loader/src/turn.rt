@@ -15,13 +15,10 @@ ghost use Prim.Native.Nat.{ℕ, _+_, _-_, _*_, _≤_, _<_};
 ghost use lib.ListN.{length};
 ghost use Rattle.parts.specs.Table.{lengthAt};
 ghost use Rattle.registers.specs.declared.Register.the-variants as Register;
-ghost use Rattle.config.specs.declared.PartialWord.the-variants as PartialWord;
+ghost use Rattle.config.specs.PhaseTests.{isStopped, takesWords};
 ghost use Rattle.config.specs.declared.Phase.the-variants as Phase;
 ghost use Rattle.loader.specs.EventEffects.{buffered, stored};
-ghost use Rattle.loader.specs.Run.{isStopped};
-ghost use Rattle.loader.specs.Laws.WordRun.{takesWords};
-ghost use Rattle.loader.specs.Inner.FillWords.{recordOf};
-ghost use Rattle.loader.specs.Inner.Turn.{Turn};
+ghost use Rattle.loader.specs.Inner.Turn.{BetweenWords, Turns, TurnsOver};
 
 // The machine after some bytes, and how many.
 pub struct Turned {
@@ -64,7 +61,7 @@ fn step_byte(
     i: usize,
 ) -> Turned
     requires { ⌜ (i < length (now bytes)) × (isStopped phase ≡ false) × (words ≡ lengthAt (control .device)) ⌝ }
-    ensures { λ r. ⌜ Turn (recordOf phase control (now (frame .entry))) (now (memory .entry)) (recordOf (r .phase) (r .control) (now (frame .exit))) (now (memory .exit)) (now (bytes .entry)) i (r .taken) ⌝ }
+    ensures { λ r. ⌜ Turns phase control frame memory bytes i r ⌝ }
 {
     finish(
         config::byte(phase, control, bytes[i]),
@@ -84,8 +81,8 @@ fn step_word(
     bytes: &[u8],
     i: usize,
 ) -> Turned
-    requires { ⌜ (i + 4 ≤ length (now bytes)) × (takesWords phase ≡ true) × (control .partial ≡ PartialWord.Zero) × (words ≡ lengthAt (control .device)) ⌝ }
-    ensures { λ r. ⌜ Turn (recordOf phase control (now (frame .entry))) (now (memory .entry)) (recordOf (r .phase) (r .control) (now (frame .exit))) (now (memory .exit)) (now (bytes .entry)) i (r .taken) ⌝ }
+    requires { ⌜ (i + 4 ≤ length (now bytes)) × (takesWords phase ≡ true) × BetweenWords control words ⌝ }
+    ensures { λ r. ⌜ Turns phase control frame memory bytes i r ⌝ }
 {
     finish(
         config::word(phase, control, word_at(bytes, i)),
@@ -107,8 +104,8 @@ fn step_fill(
     i: usize,
     n: u32,
 ) -> Turned
-    requires { ⌜ (1 ≤ n) × (n < left) × (filled + n < words) × (i + 4 * n ≤ length (now bytes)) × (control .partial ≡ PartialWord.Zero) × (words ≡ lengthAt (control .device)) ⌝ }
-    ensures { λ r. ⌜ ((m : List ℕ) → Turn (recordOf (Phase.Data Register.Fdri left filled) control (now (frame .entry))) m (recordOf (r .phase) (r .control) (now (frame .exit))) m (now (bytes .entry)) i (r .taken)) ⌝ }
+    requires { ⌜ (1 ≤ n) × (n < left) × (filled + n < words) × (i + 4 * n ≤ length (now bytes)) × BetweenWords control words ⌝ }
+    ensures { λ r. ⌜ ((m : List ℕ) → TurnsOver (Phase.Data Register.Fdri left filled) control frame m m bytes i r) ⌝ }
 {
     let mut registers = control.registers;
     let done = fill(
@@ -166,8 +163,8 @@ fn step_data(
     bytes: &[u8],
     i: usize,
 ) -> Turned
-    requires { ⌜ (i + 4 ≤ length (now bytes)) × (control .partial ≡ PartialWord.Zero) × (words ≡ lengthAt (control .device)) ⌝ }
-    ensures { λ r. ⌜ Turn (recordOf (Phase.Data register left filled) control (now (frame .entry))) (now (memory .entry)) (recordOf (r .phase) (r .control) (now (frame .exit))) (now (memory .exit)) (now (bytes .entry)) i (r .taken) ⌝ }
+    requires { ⌜ (i + 4 ≤ length (now bytes)) × BetweenWords control words ⌝ }
+    ensures { λ r. ⌜ Turns (Phase.Data register left filled) control frame memory bytes i r ⌝ }
 {
     let phase = Phase::Data {
         register: register,
@@ -196,8 +193,8 @@ fn step_words(
     bytes: &[u8],
     i: usize,
 ) -> Turned
-    requires { ⌜ (i + 4 ≤ length (now bytes)) × (isStopped phase ≡ false) × (control .partial ≡ PartialWord.Zero) × (words ≡ lengthAt (control .device)) ⌝ }
-    ensures { λ r. ⌜ Turn (recordOf phase control (now (frame .entry))) (now (memory .entry)) (recordOf (r .phase) (r .control) (now (frame .exit))) (now (memory .exit)) (now (bytes .entry)) i (r .taken) ⌝ }
+    requires { ⌜ (i + 4 ≤ length (now bytes)) × (isStopped phase ≡ false) × BetweenWords control words ⌝ }
+    ensures { λ r. ⌜ Turns phase control frame memory bytes i r ⌝ }
 {
     match phase {
         Phase::Header(_) => step_word(phase, control, words, frame, memory, bytes, i),
@@ -233,7 +230,7 @@ pub(crate) fn advance(
     i: usize,
 ) -> Turned
     requires { ⌜ (i < length (now bytes)) × (isStopped phase ≡ false) × (words ≡ lengthAt (control .device)) ⌝ }
-    ensures { λ r. ⌜ Turn (recordOf phase control (now (frame .entry))) (now (memory .entry)) (recordOf (r .phase) (r .control) (now (frame .exit))) (now (memory .exit)) (now (bytes .entry)) i (r .taken) ⌝ }
+    ensures { λ r. ⌜ Turns phase control frame memory bytes i r ⌝ }
 {
     if bytes.len() - i < 4 {
         return step_byte(phase, control, words, frame, memory, bytes, i);

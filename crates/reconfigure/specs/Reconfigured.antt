@@ -3,29 +3,20 @@
 -- reference machine. A consistent record that does not wait for sync would take the stream for something else: refused before 37.
 use Prim.Native.Nat.{ℕ}
 use mathlib.Core.List.{List}
-use mathlib.Core.Bool.{Bool, true, false, cond}
+use mathlib.Core.Bool.{cond}
 use lib.Dec.{eqb}
 use lib.ListN.{length}
 use Rattle.parts.specs.Table.{memoryAt}
 use Rattle.answers.specs.declared.Refusal.the-variants as Refusal
 use Rattle.answers.specs.declared.Answer.{Answer}
 use Rattle.answers.specs.declared.Answer.the-variants as Answer
-use Rattle.config.specs.declared.Phase.{Phase}
-use Rattle.config.specs.declared.Phase.the-variants as Phase
+use Rattle.config.specs.PhaseTests.{isHunting}
 use Rattle.record.specs.Consistency.{consistent}
 use Rattle.record.specs.declared.Record.{Record}
 use Rattle.layout.specs.ReferenceMachine.{machine}
 use Rattle.layout.specs.declared.FrameRange.{FrameRange}
 use Rattle.compiler.specs.Compiled.{streamFor, overwritten, compiled}
 use Rattle.loader.specs.Load.{load}
-
--- 01: "Waiting for sync is phase hunting, with any bytes remembered"
-unfoldable pub isHunting : Phase → Bool
-isHunting (Phase.Hunting b) = true
-isHunting (Phase.Header o) = false
-isHunting (Phase.Data r left filled) = false
-isHunting Phase.Crc = false
-isHunting (Phase.Stopped s) = false
 
 pub record Reconfigured : Type 0 where
   pub «record» : Record
@@ -38,7 +29,7 @@ module _ (e : Record) (m : List ℕ) (r : FrameRange) (b out : List ℕ) where
   abbrev pub unchanged : Answer → Reconfigured
   unchanged a = record { «record» = e; memory = m; output = out; answer = a }
 
-  -- what the compiler's verdict leads to: the record is what the load leaves, the memory what the reference machine makes of it
+  -- what the compiler's answer leads to: the record is what the load leaves, the memory what the reference machine makes of it
   unfoldable pub reconfiguredAfter : Answer → Reconfigured
   reconfiguredAfter (Answer.Done n) = record {
     «record» = load e m (streamFor (e .control .device) r b) .«record»;

@@ -1,12 +1,12 @@
 // Compile, then load: what a check of a layout against a desk's part calls.
 use answers::Answer;
 use answers::Refusal;
-use config::Phase;
+use config::is_hunting;
 use layout::FrameRange;
 use record::Record;
 ghost use mathlib.Core.Path.{_≡_};
 ghost use Rattle.answers.specs.declared.Answer.the-variants as Answer;
-ghost use Rattle.reconfigure.specs.Reconfigured.{isHunting, reconfigured};
+ghost use Rattle.reconfigure.specs.Reconfigured.{reconfigured};
 ghost use Rattle.reconfigure.specs.Promise.{Promised};
 
 // The record afterwards, and the answer.
@@ -36,22 +36,6 @@ fn refused(record: Record, refusal: Refusal) -> Reconfigured
             refusal: refusal,
             told: 0,
         },
-    }
-}
-
-fn is_hunting(phase: Phase) -> bool
-    ensures { λ r. ⌜ r ≡ isHunting phase ⌝ }
-{
-    match phase {
-        Phase::Hunting(_) => true,
-        Phase::Header(_) => false,
-        Phase::Data {
-            register: _,
-            left: _,
-            filled: _,
-        } => false,
-        Phase::Crc => false,
-        Phase::Stopped(_) => false,
     }
 }
 

@@ -21,7 +21,7 @@ pub record Applied : Type 0 where
 abbrev pub applies : Answer → List ℕ → Applied
 applies v m = record { answer = v; memory = m }
 
--- what a check's verdict leads to
+-- what a check's answer leads to
 unfoldable pub appliedAfter : Answer → ℕ → List ℕ → List ℕ → Applied
 appliedAfter (Answer.Done n) d b m = cond (eqb (length m) (memoryAt d)) (applies (Answer.Done n) (machine d b m)) (applies (Answer.Refused Refusal.WrongMemory 0) m)
 appliedAfter (Answer.Refused c at) d b m = applies (Answer.Refused c at) m

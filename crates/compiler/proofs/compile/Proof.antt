@@ -1,5 +1,5 @@
 -- `compiler::compile` meets its contract: the check's refusals, then the output's length, then the stream.
--- By what an accepted check tells, once the verdict is known.
+-- By what an accepted check tells, once the answer is known.
 use mathlib.Core.Path.{_∙_, refl, sym, ap}
 use borrow.Author.Needs.{needs}
 use denote.Ref.{now}

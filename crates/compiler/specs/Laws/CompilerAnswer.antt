@@ -1,5 +1,5 @@
 -- What the compiler's answer tells: accepted, the check accepts, the stream has room and is written; refused, the output is kept.
--- By the cases of the check's verdict; the length that an accepted check tells is the stream's.
+-- By the cases of the check's answer; the length that an accepted check tells is the stream's.
 use mathlib.Core.Path.{_≡_, _∙_, refl, sym, ap}
 use mathlib.Core.Logic.{_≢_}
 use mathlib.Core.List.{List}

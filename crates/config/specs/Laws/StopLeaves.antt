@@ -1,7 +1,7 @@
 -- A stop leaves the control state as it was, with an emptied partial word; only at stop 8 the CRC register has the word fed.
 -- By the cases of each definition: a transition either goes on or is a stop over the state that it is to leave.
-use mathlib.Core.Path.{_≡_, _∙_, refl, ap}
-use mathlib.Core.Bool.{Bool, true, false, false≢true}
+use mathlib.Core.Path.{_≡_, _∙_, refl, sym, ap}
+use mathlib.Core.Bool.{false, false≢true}
 use Prim.Native.Nat.{ℕ, _+_}
 use lib.Dec.{eqb, leb, ltb}
 use Rattle.crc16.specs.CrcRegister.{feed}
@@ -9,6 +9,7 @@ use Rattle.parts.specs.Laws.Cases.{either}
 use Rattle.parts.specs.Table.{idcodeAt, lengthAt}
 use Rattle.registers.specs.RegisterAddresses.{isFdri, registerAt}
 use Rattle.registers.specs.CommandCodes.{DESYNC, lastCommand}
+use Rattle.config.specs.PhaseTests.{isStopped}
 use Rattle.config.specs.RegisterWrites.{withCrc}
 use Rattle.config.specs.ControlState.{withRegisters, withPartial, transition, stopped}
 use Rattle.config.specs.PacketHeaders.{ready, counted, begin, typeOneWrite, obeyed, packet}
@@ -62,27 +63,21 @@ left-partial Stop.CrcMismatch b c w = refl
 left-partial Stop.NoCurrentFrame b c w = refl
 left-partial Stop.UnknownCommand b c w = refl
 
-abbrev pub running : Phase → Bool
-running (Phase.Hunting b) = true
-running (Phase.Header o) = true
-running (Phase.Data r left filled) = true
-running Phase.Crc = true
-running (Phase.Stopped s) = false
-
+-- not stopped
 abbrev Running : Phase → Type 0
-Running p = running p ≡ true
+Running p = isStopped p ≡ false
 
 -- ---- phases that go on
 
-pub ended-runs : (r : Register) → running (ended r) ≡ true
+pub ended-runs : (r : Register) → isStopped (ended r) ≡ false
 unfolding ended
 ended-runs r = either Running (isFdri r) (λ h. refl) (λ h. refl)
 
-pub onward-runs : (r : Register) (left filled : ℕ) → running (onward r left filled) ≡ true
+pub onward-runs : (r : Register) (left filled : ℕ) → isStopped (onward r left filled) ≡ false
 unfolding onward
 onward-runs r left filled = either Running (leb left 1) (λ h. ended-runs r) (λ h. refl)
 
-pub after-runs : (k : ℕ) (p : Phase) → running p ≡ true → running (commandPhase k p) ≡ true
+pub after-runs : (k : ℕ) (p : Phase) → isStopped p ≡ false → isStopped (commandPhase k p) ≡ false
 unfolding commandPhase
 after-runs k p g = either Running (eqb k DESYNC) (λ h. refl) (λ h. g)
 
@@ -96,8 +91,8 @@ module _ (c : Control) (w : ℕ) where
   stops : (t : Stop) → Stopping (stopped t (leftAt t c w))
   stops t s e = let same : t ≡ s = cc in ap (λ (u : Stop). stopped u (leftAt u c w)) same
 
-  goes : (p : Phase) (d : Control) (e : Event) → running p ≡ true → Stopping (transition p d e)
-  goes p d e g s k = absurd (false≢true (rw k at g))
+  goes : (p : Phase) (d : Control) (e : Event) → isStopped p ≡ false → Stopping (transition p d e)
+  goes p d e g s k = absurd (false≢true (sym (rw k at g)))
 
   begin-stops : (r : Register) (n : ℕ) → Stopping (begin r n c)
   unfolding begin
@@ -119,11 +114,11 @@ module _ (c : Control) (w : ℕ) where
   obeyed-stops (PacketHeader.Write a n) = one-stops (registerAt a) n
   obeyed-stops (PacketHeader.LongWrite r n) = either Stopping (eqb n 0) (λ h. goes _ _ _ refl) (λ h. begin-stops r n)
 
-  crc-stops : (p : Phase) → running p ≡ true → Stopping (crcWord p c w)
+  crc-stops : (p : Phase) → isStopped p ≡ false → Stopping (crcWord p c w)
   unfolding checked
   crc-stops p g = either Stopping (eqb (feed (c .registers .crc) 0 w) 0) (λ h. goes p _ _ g) (λ h. stops Stop.CrcMismatch)
 
-  acted-stops : (k : ℕ) (p : Phase) (d : Control) → running p ≡ true → Stopping (acted k p d)
+  acted-stops : (k : ℕ) (p : Phase) (d : Control) → isStopped p ≡ false → Stopping (acted k p d)
   unfolding acted
   acted-stops k p d g = goes (commandPhase k p) _ _ (after-runs k p g)
 
@@ -158,19 +153,19 @@ module _ (c : Control) (w : ℕ) where
   data-stops Register.Idcode left filled = either Stopping (eqb w (idcodeAt (c .device))) (λ h. goes _ _ _ (onward-runs Register.Idcode left filled)) (λ h. stops Stop.WrongIdcode)
 
 -- a word that stops the machine
-pub word-stops : (p : Phase) (c : Control) (w : ℕ) → running p ≡ true → (s : Stop) → word p c w .phase ≡ Phase.Stopped s
+pub word-stops : (p : Phase) (c : Control) (w : ℕ) → isStopped p ≡ false → (s : Stop) → word p c w .phase ≡ Phase.Stopped s
     → word p c w ≡ stopped s (leftAt s c w)
 unfolding word
 word-stops (Phase.Hunting b) c w g = goes c w _ _ _ refl
 word-stops (Phase.Header o) c w g = obeyed-stops c w (packet o w)
 word-stops (Phase.Data r left filled) c w g = data-stops c w r left filled
 word-stops Phase.Crc c w g = crc-stops c w _ refl
-word-stops (Phase.Stopped t) c w g = absurd (false≢true g)
+word-stops (Phase.Stopped t) c w g = absurd (false≢true (sym g))
 
 -- ---- bytes
 
 -- hunting never stops
-pub hunting-runs : (b : PartialWord) (c : Control) (x : ℕ) → running (byte (Phase.Hunting b) c x .phase) ≡ true
+pub hunting-runs : (b : PartialWord) (c : Control) (x : ℕ) → isStopped (byte (Phase.Hunting b) c x .phase) ≡ false
 unfolding byte hunted
 hunting-runs PartialWord.Zero c x = refl
 hunting-runs (PartialWord.One a) c x = refl
@@ -190,19 +185,19 @@ pub record EndsBadWord (p : Phase) (c : Control) (x : ℕ) (s : Stop) : Type 0 w
   pub before : c .partial ≡ PartialWord.Three first second third
   pub left : byte p c x ≡ stopped s (leftAt s c (wordOf first second third x))
 
-gathered-stops : (b : PartialWord) (p : Phase) (c : Control) (x : ℕ) → running p ≡ true → c .partial ≡ b → byte p c x ≡ gathered b p c x
+gathered-stops : (b : PartialWord) (p : Phase) (c : Control) (x : ℕ) → isStopped p ≡ false → c .partial ≡ b → byte p c x ≡ gathered b p c x
     → (s : Stop) → gathered b p c x .phase ≡ Phase.Stopped s → EndsBadWord p c x s
 unfolding gathered
-gathered-stops PartialWord.Zero p c x g k e s q = absurd (false≢true (rw q at g))
-gathered-stops (PartialWord.One a) p c x g k e s q = absurd (false≢true (rw q at g))
-gathered-stops (PartialWord.Two a b) p c x g k e s q = absurd (false≢true (rw q at g))
+gathered-stops PartialWord.Zero p c x g k e s q = absurd (false≢true (sym (rw q at g)))
+gathered-stops (PartialWord.One a) p c x g k e s q = absurd (false≢true (sym (rw q at g)))
+gathered-stops (PartialWord.Two a b) p c x g k e s q = absurd (false≢true (sym (rw q at g)))
 gathered-stops (PartialWord.Three a b d) p c x g k e s q = record { first = a; second = b; third = d; before = k; left = e ∙ word-stops p (withPartial PartialWord.Zero c) (wordOf a b d x) g s q ∙ ap (stopped s) (left-partial s PartialWord.Zero c (wordOf a b d x)) }
 
 -- a byte that stops the machine
-pub byte-stops : (p : Phase) (c : Control) (x : ℕ) → running p ≡ true → (s : Stop) → byte p c x .phase ≡ Phase.Stopped s → EndsBadWord p c x s
+pub byte-stops : (p : Phase) (c : Control) (x : ℕ) → isStopped p ≡ false → (s : Stop) → byte p c x .phase ≡ Phase.Stopped s → EndsBadWord p c x s
 unfolding byte
-byte-stops (Phase.Hunting b) c x g = λ s q. absurd (false≢true (rw q at (hunting-runs b c x)))
+byte-stops (Phase.Hunting b) c x g = λ s q. absurd (false≢true (sym (rw q at (hunting-runs b c x))))
 byte-stops (Phase.Header o) c x g = gathered-stops (c .partial) _ c x refl refl refl
 byte-stops (Phase.Data r left filled) c x g = gathered-stops (c .partial) _ c x refl refl refl
 byte-stops Phase.Crc c x g = gathered-stops (c .partial) _ c x refl refl refl
-byte-stops (Phase.Stopped t) c x g = absurd (false≢true g)
+byte-stops (Phase.Stopped t) c x g = absurd (false≢true (sym g))

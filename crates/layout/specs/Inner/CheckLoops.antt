@@ -33,7 +33,7 @@ unfolding ownsRun
 run-more own zero n h = absurd (omega arith)
 run-more own (suc k) n h = simp (suc-sub-suc k 0, sub-zero)
 
--- the verdict on a list of steps, over the words that are counted already
+-- the answer on a list of steps, over the words that are counted already
 unfoldable pub summed : ℕ → ℕ → Reading (List Step) → Answer
 summed l w (Reading.Read ss next) = Answer.Done (4 * (w + stepsWordCount l ss))
 summed l w (Reading.Refused c at) = Answer.Refused c at

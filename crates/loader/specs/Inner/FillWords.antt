@@ -13,6 +13,7 @@ use borrow.Author.Tests.{lt-ltb, lt-leb}
 use Rattle.crc16.specs.CrcRegister.{fedWords}
 use Rattle.parts.specs.Table.{lengthAt}
 use Rattle.registers.specs.RegisterAddresses.{addressOf}
+use Rattle.config.specs.PhaseTests.{isStopped, takesWords}
 use Rattle.config.specs.RegisterWrites.{fedCrc, hold}
 use Rattle.config.specs.ControlState.{withRegisters, transition}
 use Rattle.config.specs.DataWords.{fdriWord, dataWord, word}
@@ -24,9 +25,9 @@ use Rattle.config.specs.declared.Control.{Control}
 use Rattle.config.specs.declared.Phase.{Phase}
 use Rattle.config.specs.declared.Phase.the-variants as Phase
 use Rattle.loader.specs.EventEffects.{buffered, stored}
-use Rattle.loader.specs.Run.{after, isStopped, byteTransition, recordAfter, memoryAfter, run}
+use Rattle.loader.specs.Run.{after, byteTransition, recordAfter, memoryAfter, run}
 use Rattle.loader.specs.Laws.Pieces.{byte-run, after-after}
-use Rattle.loader.specs.Laws.WordRun.{takesWords, partial-empty, wordTransition, word-run}
+use Rattle.loader.specs.Laws.WordRun.{partial-empty, wordTransition, word-run}
 use Rattle.config.specs.declared.Event.the-variants as Event
 use Rattle.record.specs.declared.Record.{Record}
 
@@ -91,7 +92,7 @@ pub run-filling : (n left filled : ℕ) (c : Control) (f m s : List ℕ) (i : �
     → n < left → filled + n < lengthAt (c .device) → c .partial ≡ PartialWord.Zero → i + 4 * n ≤ length s
     → run (recordOf (Phase.Data Register.Fdri left filled) c f) m (drop i s)
     ≡ after (4 * n) (run (recordOf (Phase.Data Register.Fdri (left - n) (filled + n)) (filledControl (wordsAt n s i) c) (keptAll (wordsAt n s i) filled f)) m (drop (i + 4 * n) s))
-unfolding wordsAt keptAll fedWords lastOf takesWords buffered stored
+unfolding wordsAt keptAll fedWords lastOf buffered stored
 run-filling zero left filled c f m s i hl hf hp hs = simp (sub-zero, add-zero, zero-add)
 run-filling (suc n) left filled c f m s i hl hf hp hs =
     let w = wordAt s i in

@@ -6,7 +6,10 @@ use mathlib.Core.Bool.{true, false}
 use Prim.Native.Nat.{ℕ, _+_, _-_, _*_, _≤_, _<_}
 use native.Mathlib.Omega.{arith}
 use lib.ListN.{length, getD, drop}
+use denote.Ref.{RefT, now}
+use denote.Triple.Both.{Both}
 use Rattle.parts.specs.Table.{lengthAt}
+use Rattle.config.specs.PhaseTests.{isStopped, takesWords}
 use Rattle.config.specs.Laws.StaysSet.{word-keeps, byte-keeps}
 use Rattle.config.specs.DataWords.{word}
 use Rattle.config.specs.StreamBytes.{byte}
@@ -17,9 +20,10 @@ use Rattle.config.specs.declared.Transition.{Transition}
 use Rattle.config.specs.declared.Phase.{Phase}
 use Rattle.config.specs.declared.Phase.the-variants as Phase
 use Rattle.loader.specs.EventEffects.{buffered, stored}
-use Rattle.loader.specs.Run.{after, isStopped, recordAfter, memoryAfter, run}
-use Rattle.loader.specs.Laws.WordRun.{takesWords, partial-empty}
+use Rattle.loader.specs.Run.{after, recordAfter, memoryAfter, run}
+use Rattle.loader.specs.Laws.WordRun.{partial-empty}
 use Rattle.loader.specs.Inner.FillWords.{recordOf, wordAt, wordsAt, keptAll, filledControl, run-byte, run-word, run-filling}
+use Rattle.loader.specs.declared.turn.Turned.{Turned}
 use Rattle.record.specs.declared.Record.{Record}
 
 -- n of the bytes from offset i on lead from record d and memory m to record e and memory k
@@ -28,6 +32,23 @@ pub record Turn (d : Record) (m : List ℕ) (e : Record) (k : List ℕ) (s : Lis
   pub within : i + n ≤ length s
   pub same : e .control .device ≡ d .control .device
   pub runs : run d m (drop i s) ≡ after n (run e k (drop (i + n) s))
+
+-- bytes or words that a caller lends: what they are at entry and at exit
+abbrev Lent : Type 0
+Lent = Both (RefT (List ℕ)) (RefT (List ℕ))
+
+-- the bytes taken from offset i on lead from p, c, the frame and memory m to what r holds, the frame and memory k
+abbrev pub TurnsOver : Phase → Control → Lent → List ℕ → List ℕ → Lent → ℕ → Turned → Type 0
+TurnsOver p c frame m k bytes i r =
+    Turn (recordOf p c (now (frame .entry))) m (recordOf (r .phase) (r .control) (now (frame .exit))) k (now (bytes .entry)) i (r .taken)
+
+-- the same over a memory that is lent
+abbrev pub Turns : Phase → Control → Lent → Lent → Lent → ℕ → Turned → Type 0
+Turns p c frame memory bytes i r = TurnsOver p c frame (now (memory .entry)) (now (memory .exit)) bytes i r
+
+-- between words: the partial word is empty; a frame of the part has so many words
+abbrev pub BetweenWords : Control → ℕ → Type 0
+BetweenWords c words = (c .partial ≡ PartialWord.Zero) × (words ≡ lengthAt (c .device))
 
 module _ (p : Phase) (c : Control) (f m s : List ℕ) (i : ℕ) where
   pub byte-turn : isStopped p ≡ false → i < length s →

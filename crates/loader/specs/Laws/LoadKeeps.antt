@@ -8,11 +8,13 @@ use Prim.Native.Nat.{ℕ, _≤_}
 use native.Mathlib.Decide.{ℕ-discrete}
 use native.Mathlib.Omega.{arith}
 use lib.ListN.{length}
+use Rattle.config.specs.PhaseTests.{isStopped, takesWords}
+use Rattle.config.specs.Laws.TakesWords.{takes-runs}
 use Rattle.config.specs.ControlState.{withPartial, stopped}
 use Rattle.record.specs.Consistency.{consistent}
 use Rattle.record.specs.Laws.StaysConsistent.{byte-consistent}
 use Rattle.config.specs.Laws.StaysSet.{Grown, grown-refl, grown-trans, byte-keeps}
-use Rattle.config.specs.Laws.StopLeaves.{leftAt, left-partial, running, word-stops}
+use Rattle.config.specs.Laws.StopLeaves.{leftAt, left-partial, word-stops}
 use Rattle.config.specs.StreamBytes.{wordOf, byte}
 use Rattle.config.specs.declared.Control.{Control}
 use Rattle.config.specs.declared.Transition.{Transition}
@@ -20,13 +22,13 @@ use Rattle.answers.specs.declared.Stop.{Stop}
 use Rattle.config.specs.declared.PartialWord.the-variants as PartialWord
 use Rattle.config.specs.declared.Phase.{Phase}
 use Rattle.config.specs.declared.Phase.the-variants as Phase
-use Rattle.loader.specs.Run.{isStopped, Ran, ran, run}
+use Rattle.loader.specs.Run.{Ran, ran, run}
 use Rattle.record.specs.PowerOn.{Outcome}
 use Rattle.parts.specs.Table.{memoryAt}
 use Rattle.loader.specs.Load.{answerOf, load}
 use Rattle.answers.specs.declared.LoadAnswer.the-variants as LoadAnswer
 use Rattle.loader.specs.Laws.Pieces.{run-invariant, run-append, taken-le, taken-all, load-accepted, load-inconsistent, load-wrong-memory, load-cases, loadable-again, later, load-append}
-use Rattle.loader.specs.Laws.WordRun.{takesWords, partial-empty, wordTransition}
+use Rattle.loader.specs.Laws.WordRun.{partial-empty, wordTransition}
 use Rattle.loader.specs.Laws.WordRun.{word-stops as run-stops}
 use Rattle.parts.specs.Laws.Figures.{length-fits}
 use Rattle.loader.specs.Laws.UntouchedFrames.{run-device, run-keeps}
@@ -44,7 +46,7 @@ load-taken d m xs = load-cases (λ o. o .taken ≤ length xs) d m xs (taken-le d
 
 -- and with stop 0 they are all of it
 done-runs : (p : Phase) → answerOf p ≡ LoadAnswer.Done → isStopped p ≡ false
-unfolding answerOf isStopped
+unfolding answerOf
 done-runs (Phase.Hunting b) h = refl
 done-runs (Phase.Header o) h = refl
 done-runs (Phase.Data r left filled) h = refl
@@ -79,14 +81,6 @@ pub load-pieces : (d : Record) (m a b : List ℕ) → length (d .frame) ≡ 213
 load-pieces d m a b full =
     load-append d m a b
     (λ ok. loadable-again d m (run d m a) ok (run-consistent d m a (ok .fits)) (run-keeps _ d m a refl (omega (arith, length-fits (d .control .device))) .size) (run-device d m a))
-
-takes-runs : (p : Phase) → takesWords p ≡ true → running p ≡ true
-unfolding takesWords
-takes-runs (Phase.Hunting b) h = refl
-takes-runs (Phase.Header o) h = refl
-takes-runs (Phase.Data r left filled) h = refl
-takes-runs Phase.Crc h = refl
-takes-runs (Phase.Stopped s) h = h
 
 -- 01: "The bad word is dropped: not fed, not kept, with nothing in the record changed but the phase and an emptied part word.
 -- Only at 8 it is fed first": a word that stops leaves the record as it was before it but for that, and the memory as it was

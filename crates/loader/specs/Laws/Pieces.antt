@@ -12,12 +12,13 @@ use lib.Dec.{eqb}
 use lib.ListN.{length}
 use borrow.Author.Tests.{eq-eqb, ne-eqb, eqb-true, eqb-false}
 use Rattle.record.specs.Consistency.{consistent}
+use Rattle.config.specs.PhaseTests.{isStopped}
 use Rattle.config.specs.declared.Phase.{Phase}
 use Rattle.config.specs.declared.Phase.the-variants as Phase
 use Rattle.answers.specs.declared.Refusal.{Refusal}
 use Rattle.answers.specs.declared.Refusal.the-variants as Refusal
 use Rattle.answers.specs.declared.Stop.{Stop}
-use Rattle.loader.specs.Run.{isStopped, byteTransition, recordAfter, memoryAfter, Ran, ran, after, run}
+use Rattle.loader.specs.Run.{byteTransition, recordAfter, memoryAfter, Ran, ran, after, run}
 use Rattle.record.specs.PowerOn.{Outcome}
 use Rattle.parts.specs.Table.{memoryAt}
 use Rattle.loader.specs.Load.{answerOf, refused, finished, load}
@@ -116,7 +117,7 @@ module _ (d : Record) (m xs : List ℕ) where
   -- 01: "A stopped device takes nothing and answers the same number"
   pub load-stopped : (s : Stop) → Loadable d m → d .phase ≡ Phase.Stopped s
       → load d m xs ≡ record { «record» = d; memory = m; answer = LoadAnswer.Stopped s; taken = 0 }
-  unfolding isStopped answerOf
+  unfolding answerOf
   load-stopped s h p = rw (load-accepted h, stopped-run d m xs (ap isStopped p), p)
 
 -- a load is the run, or a refusal whatever the bytes are

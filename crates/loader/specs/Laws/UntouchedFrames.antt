@@ -10,11 +10,12 @@ use native.Mathlib.Omega.{arith}
 use lib.ListN.{length, set, length-set}
 use borrow.Author.Tests.{le-leb, lt-leb}
 use Rattle.parts.specs.Table.{lengthAt}
+use Rattle.config.specs.PhaseTests.{isStopped}
 use Rattle.config.specs.Laws.StaysSet.{byte-keeps}
 use Rattle.config.specs.declared.Event.{Event}
 use Rattle.config.specs.declared.Event.the-variants as Event
 use Rattle.loader.specs.EventEffects.{storeWithin, buffered, stored}
-use Rattle.loader.specs.Run.{isStopped, byteTransition, run}
+use Rattle.loader.specs.Run.{byteTransition, run}
 use Rattle.loader.specs.Load.{load}
 use Rattle.loader.specs.Laws.Pieces.{next, nextMemory, run-induction, run-invariant, load-cases}
 use Rattle.parts.specs.FrameMemory.{frameOf}

@@ -1,53 +1,30 @@
 -- Four bytes are a word: from an empty partial word, four bytes do what the control machine makes of their word, and a word that
 -- stops leaves the memory as it was, with its four bytes taken. Byte by byte: three bytes only fill the partial word.
-use mathlib.Core.Path.{_≡_, _∙_, refl, sym, ap}
+use mathlib.Core.Path.{_≡_, _∙_, sym, ap}
 use mathlib.Core.List.{List, _∷_}
-use mathlib.Core.Bool.{Bool, true, false}
+use mathlib.Core.Bool.{true}
 use Prim.Native.Nat.{ℕ}
 use native.Mathlib.Omega.{arith}
+use Rattle.config.specs.PhaseTests.{isStopped, takesWords}
+use Rattle.config.specs.Laws.TakesWords.{takes-gathers, takes-runs}
 use Rattle.config.specs.ControlState.{withPartial}
-use Rattle.config.specs.StreamBytes.{wordOf, gathered, byte}
+use Rattle.config.specs.StreamBytes.{wordOf, gathered}
 use Rattle.config.specs.DataWords.{word}
 use Rattle.config.specs.declared.PartialWord.{PartialWord}
 use Rattle.config.specs.declared.PartialWord.the-variants as PartialWord
 use Rattle.config.specs.declared.Control.{Control}
-use Rattle.config.specs.declared.Phase.{Phase}
 use Rattle.config.specs.declared.Phase.the-variants as Phase
 use Rattle.answers.specs.declared.Stop.{Stop}
 use Rattle.config.specs.declared.Event.{Event}
 use Rattle.config.specs.declared.Event.the-variants as Event
 use Rattle.config.specs.declared.Transition.{Transition}
 use Rattle.loader.specs.EventEffects.{buffered, stored}
-use Rattle.loader.specs.Run.{isStopped, recordAfter, memoryAfter, Ran, ran, after, run}
+use Rattle.loader.specs.Run.{recordAfter, memoryAfter, Ran, ran, after, run}
 use Rattle.loader.specs.Laws.Pieces.{stopped-run, byte-run}
 use Rattle.record.specs.declared.Record.{Record}
 
--- the phases in which "bytes are taken in fours"
-unfoldable pub takesWords : Phase → Bool
-takesWords (Phase.Hunting b) = false
-takesWords (Phase.Header o) = true
-takesWords (Phase.Data r left filled) = true
-takesWords Phase.Crc = true
-takesWords (Phase.Stopped s) = false
-
 pub partial-empty : (c : Control) → c .partial ≡ PartialWord.Zero → withPartial PartialWord.Zero c ≡ c
 partial-empty c h = ap (λ (b : PartialWord). withPartial b c) (sym h)
-
-takes-bytes : (p : Phase) → takesWords p ≡ true → isStopped p ≡ false
-unfolding takesWords isStopped
-takes-bytes (Phase.Hunting b) h = refl
-takes-bytes (Phase.Header o) h = refl
-takes-bytes (Phase.Data r left filled) h = refl
-takes-bytes Phase.Crc h = refl
-takes-bytes (Phase.Stopped s) h = sym h
-
-gathers : (p : Phase) (c : Control) (x : ℕ) → takesWords p ≡ true → byte p c x ≡ gathered (c .partial) p c x
-unfolding takesWords byte
-gathers (Phase.Hunting b) c x h = let z : _≡_ {A = ℕ} 0 1 = cc in absurd (omega arith)
-gathers (Phase.Header o) c x h = refl
-gathers (Phase.Data r left filled) c x h = refl
-gathers Phase.Crc c x h = refl
-gathers (Phase.Stopped s) c x h = let z : _≡_ {A = ℕ} 0 1 = cc in absurd (omega arith)
 
 four-bytes : (r : Ran) → after 1 (after 1 (after 1 (after 1 r))) ≡ after 4 r
 four-bytes r = ap (ran (r .«record») (r .memory)) (omega arith)
@@ -66,7 +43,7 @@ transitionAfter b d x = gathered b (d .phase) (withPartial b (d .control)) x
 module _ (d : Record) (takes : takesWords (d .phase) ≡ true) where
   partial-run : (b : PartialWord) (m : List ℕ) (x : ℕ) (xs : List ℕ)
       → run (withPartialWord b d) m (x ∷ xs) ≡ after 1 (run (recordAfter (transitionAfter b d x) d) (memoryAfter (transitionAfter b d x) d m) xs)
-  partial-run b m x xs = byte-run (withPartialWord b d) m x xs (takes-bytes (d .phase) takes) ∙ rw (gathers (d .phase) (withPartial b (d .control)) x takes)
+  partial-run b m x xs = byte-run (withPartialWord b d) m x xs (takes-runs (d .phase) takes) ∙ rw (takes-gathers (d .phase) (withPartial b (d .control)) x takes)
 
   -- 01: "bytes are taken in fours, high byte first"
   pub word-run : (m : List ℕ) (a b c e : ℕ) (rest : List ℕ) → d .control .partial ≡ PartialWord.Zero
@@ -82,7 +59,7 @@ module _ (d : Record) (takes : takesWords (d .phase) ≡ true) where
     -- 01: "the bytes taken from this piece, up to and with the byte that ended the bad word"; "Stops 1 to 10 keep frames stored before"
     pub word-stops : run d m (a ∷ b ∷ c ∷ e ∷ rest)
         ≡ ran (record { phase = Phase.Stopped s; control = wordTransition d (wordOf a b c e) .control; frame = d .frame }) m 4
-    unfolding isStopped buffered stored
+    unfolding buffered stored
     word-stops =
         let f = wordTransition d (wordOf a b c e) in
         word-run m a b c e rest empty ∙ ap (after 4) (stopped-run (recordAfter f d) (memoryAfter f d m) rest (ap isStopped stops)) ∙ rw (stops, quiet)

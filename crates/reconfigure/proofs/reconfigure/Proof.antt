@@ -1,4 +1,4 @@
--- `reconfigure::reconfigure` meets its contract: the refusals in their order, then the compiler's verdict, then the load of the stream.
+-- `reconfigure::reconfigure` meets its contract: the refusals in their order, then the compiler's answer, then the load of the stream.
 -- By the law of each answer, once its tests are known; the load's memory is the reference machine's by demand 3.
 use mathlib.Core.Path.{_≡_, _∙_, refl, sym}
 use mathlib.Core.Logic.{_≢_}
@@ -10,6 +10,7 @@ use lib.Seq.{length-take-le}
 use borrow.Author.Needs.{needs}
 use borrow.Author.Tests.{not-true, not-false}
 use denote.Ref.{now}
+use Rattle.config.specs.PhaseTests.{isHunting}
 use Rattle.parts.specs.Laws.WordBytes.{AreBytes, all-bytes}
 use Rattle.parts.specs.Table.{memoryAt}
 use Rattle.answers.specs.declared.Answer.the-variants as Answer
@@ -17,7 +18,7 @@ use Rattle.record.specs.Consistency.{consistent}
 use Rattle.compiler.specs.Compiled.{Compiled, compiled}
 use Rattle.compiler.specs.Laws.CompilerAnswer.{compiled-accepts, refused-keeps}
 use Rattle.reconfigure.specs.Laws.Demand3.{AwaitsSync}
-use Rattle.reconfigure.specs.Reconfigured.{isHunting, Reconfigured, reconfiguredAfter, reconfigured}
+use Rattle.reconfigure.specs.Reconfigured.{Reconfigured, reconfiguredAfter, reconfigured}
 use Rattle.reconfigure.specs.Laws.AnswerCases.{inconsistent-so, wrong-memory-so, not-hunting-so, compiled-so, refused-so}
 use Rattle.reconfigure.specs.Promise.{Promised}
 use Rattle.reconfigure.specs.Laws.PromiseKept.{awaits-sync, accepted-so, promised}

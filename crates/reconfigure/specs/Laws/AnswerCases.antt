@@ -7,6 +7,7 @@ use mathlib.Core.List.{List}
 use mathlib.Core.Bool.{true, false}
 use lib.ListN.{length}
 use borrow.Author.Tests.{eq-eqb, ne-eqb}
+use Rattle.config.specs.PhaseTests.{isHunting}
 use Rattle.parts.specs.Table.{memoryAt}
 use Rattle.answers.specs.declared.Refusal.the-variants as Refusal
 use Rattle.answers.specs.declared.Answer.{Answer}
@@ -15,7 +16,7 @@ use Rattle.record.specs.Consistency.{consistent}
 use Rattle.record.specs.declared.Record.{Record}
 use Rattle.layout.specs.declared.FrameRange.{FrameRange}
 use Rattle.compiler.specs.Compiled.{compiled}
-use Rattle.reconfigure.specs.Reconfigured.{isHunting, unchanged, reconfiguredAfter, reconfigured}
+use Rattle.reconfigure.specs.Reconfigured.{unchanged, reconfiguredAfter, reconfigured}
 
 module _ (e : Record) (m : List ℕ) (r : FrameRange) (b out : List ℕ) where
   pub inconsistent-so : consistent (e .phase) (e .control) ≡ false → reconfigured e m r b out ≡ unchanged e m r b out (Answer.Refused Refusal.Inconsistent 0)

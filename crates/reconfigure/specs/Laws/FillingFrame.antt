@@ -24,7 +24,6 @@ use Rattle.config.specs.declared.Current.the-variants as Current
 use Rattle.config.specs.declared.Phase.the-variants as Phase
 use Rattle.config.specs.declared.Event.the-variants as Event
 use Rattle.loader.specs.EventEffects.{buffered, storeWithin, stored}
-use Rattle.loader.specs.Laws.WordRun.{takesWords}
 use Rattle.loader.specs.Inner.FillWords.{lastOf, fills}
 use Rattle.reconfigure.specs.Laws.RegisterPackets.{passed}
 use Rattle.reconfigure.specs.Laws.RecordView.{View, stands, waiting, moved, word-reaches, ReachesView}
@@ -60,7 +59,7 @@ module _ (d v k left filled w : ℕ) (b : Bool) (buffer m : List ℕ) (small : w
   -- it only fills
   pub fill-word : (n : Current) → 1 < left → filled + 1 < lengthAt d
       → ReachesView (filling left filled d v k n b buffer) m (w ∷ []) (filling (left - 1) (filled + 1) d (feed v 2 w) k n b (set buffer filled w)) m
-  unfolding takesWords fedWords lastOf hold fedCrc addressOf buffered stored
+  unfolding fedWords lastOf hold fedCrc addressOf buffered stored
   fill-word n hl hf =
       record {
         from = λ e h.
@@ -78,7 +77,7 @@ module _ (d v k left filled w : ℕ) (b : Bool) (buffer m : List ℕ) (small : w
   pub store-word : (n : ℕ) → 1 < left → filled + 1 ≡ lengthAt d → 4 * lengthAt d * n + 4 * lengthAt d ≤ length m
       → ReachesView (filling left filled d v k (Current.Frame n) b buffer) m (w ∷ [])
       (filling (left - 1) 0 d (feed v 2 w) k (stepped d n) b (set buffer filled w)) (placed (lengthAt d) n (bytesOf (set buffer filled w)) m)
-  unfolding takesWords hold fedCrc addressOf buffered stored storeWithin
+  unfolding hold fedCrc addressOf buffered stored storeWithin
   store-word n hl hf fits =
       record {
         from = λ e h.
@@ -98,7 +97,7 @@ module _ (d v k left filled w : ℕ) (b : Bool) (buffer m : List ℕ) (small : w
   -- it completes the packet's last frame, which is in hand from here on
   pub last-word : (n : Current) → left ≡ 1 → filled < lengthAt d
       → ReachesView (filling left filled d v k n b buffer) m (w ∷ []) (checking d (feed v 2 w) k n true (set buffer filled w)) m
-  unfolding takesWords hold fedCrc raised addressOf buffered stored
+  unfolding hold fedCrc raised addressOf buffered stored
   last-word n hl hf =
       record {
         from = λ e h.
@@ -114,7 +113,7 @@ module _ (d v k left filled w : ℕ) (b : Bool) (buffer m : List ℕ) (small : w
 
 -- the auto CRC word, which passes
 pub auto-reaches : (d v k : ℕ) (n : Current) (b : Bool) (buffer m : List ℕ) → ReachesView (checking d v k n b buffer) m (checkWord v ∷ []) (waiting d 0 k n b buffer) m
-unfolding takesWords word checked raised addressOf buffered stored
+unfolding word checked raised addressOf buffered stored
 auto-reaches d v k n b buffer m =
     record {
       from = λ e h.

@@ -35,7 +35,6 @@ use Rattle.stream.specs.Stream.{wordsFrom, framesWords}
 use Rattle.stream.specs.Laws.StreamLength.{words-length, frames-words}
 use Rattle.stream.specs.Laws.WordsAndBytes.{words-small, bytes-words}
 use Rattle.loader.specs.EventEffects.{buffered, stored}
-use Rattle.loader.specs.Laws.WordRun.{takesWords}
 use Rattle.reconfigure.specs.Laws.Headers.{header-fits, header-one, header-two}
 use Rattle.reconfigure.specs.Laws.RecordView.{View, stands, waiting, moved, word-reaches, ReachesView, view-none, view-on}
 use Rattle.reconfigure.specs.Laws.FillingFrame.{filling, auto-reaches}
@@ -55,7 +54,7 @@ second-header c q positive small idcode flr cmd whole = simp (header-two Registe
 -- the headers begin a packet of q words, which are whole frames
 headers-lead : (d v q : ℕ) (n : Current) (b : Bool) (buffer m : List ℕ) → 0 < q → q < 2 ^ 27 → q % lengthAt d ≡ 0
     → ReachesView (waiting d v 1 n b buffer) m (header1 Register.Fdri 0 ∷ header2 q ∷ []) (filling q 0 d v 1 n b buffer) m
-unfolding takesWords buffered stored
+unfolding buffered stored
 headers-lead d v q n b buffer m positive small whole = view-on one two
   where
     one : ReachesView (waiting d v 1 n b buffer) m (header1 Register.Fdri 0 ∷ []) (stands (Phase.Header (Open.After Register.Fdri)) d v 1 n b buffer) m

@@ -9,6 +9,7 @@ use borrow.Author.Tests.{ne-eqb}
 use Rattle.registers.specs.RegisterAddresses.{addressOf, isFdri, isMfwr}
 use Rattle.registers.specs.Laws.AddressLookup.{register-address, address-bound}
 use Rattle.registers.specs.declared.Register.{Register}
+use Rattle.config.specs.PhaseTests.{takesWords}
 use Rattle.config.specs.declared.Open.{Open}
 use Rattle.config.specs.declared.Open.the-variants as Open
 use Rattle.config.specs.ControlState.{transition}
@@ -24,7 +25,6 @@ use Rattle.record.specs.declared.Record.{Record}
 use Rattle.stream.specs.StreamPackets.{header1, header2}
 use Rattle.loader.specs.EventEffects.{buffered, stored}
 use Rattle.loader.specs.Run.{recordAfter, memoryAfter}
-use Rattle.loader.specs.Laws.WordRun.{takesWords}
 use Rattle.reconfigure.specs.Laws.WordsReach.{Reaches, reaches-on, reaches-word}
 
 -- a type 1 write header
@@ -62,7 +62,7 @@ module _ (r : Register) (plain : (isFdri r ≡ false) × (isMfwr r ≡ false)) (
 pub write-reaches : (e : Record) (m : List ℕ) (r : Register) (w : ℕ) (x : Transition) → (isFdri r ≡ false) × (isMfwr r ≡ false)
     → e .phase ≡ Phase.Header Open.Closed → e .control .partial ≡ PartialWord.Zero → w < 2 ^ 32
     → dataWord r 1 0 (e .control) w ≡ x → Reaches e m (header1 r 1 ∷ w ∷ []) (recordAfter x e) (memoryAfter x e m)
-unfolding takesWords word buffered stored
+unfolding word buffered stored
 write-reaches e m r w x plain phase empty small made =
     let header = reaches-word e m (header1 r 1) _ (ap takesWords phase) empty (header-fits r 1 (omega arith))
     (ap (λ p. word p (e .control) (header1 r 1)) phase ∙ write-begins r plain (e .control)) in

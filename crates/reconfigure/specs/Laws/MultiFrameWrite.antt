@@ -25,7 +25,6 @@ use Rattle.config.specs.declared.Phase.the-variants as Phase
 use Rattle.config.specs.declared.Event.the-variants as Event
 use Rattle.stream.specs.StreamPackets.{Packet, header1, crcOf, packetWords}
 use Rattle.loader.specs.EventEffects.{buffered, storeWithin, stored}
-use Rattle.loader.specs.Laws.WordRun.{takesWords}
 use Rattle.reconfigure.specs.Laws.WordsReach.{reaches-on, reaches-word}
 use Rattle.reconfigure.specs.Laws.Headers.{header-fits, header-one}
 use Rattle.reconfigure.specs.Laws.RecordView.{View, waiting, moved, word-reaches, ReachesView}
@@ -45,7 +44,7 @@ multi-stores c n at = simp at
 module _ (d v n : ℕ) (ws m : List ℕ) (fits : 4 * lengthAt d * n + 4 * lengthAt d ≤ length m) where
   pub multi-reaches : ReachesView (waiting d v 2 (Current.Frame n) true ws) m (packetWords v Packet.MultiFrame)
       (waiting d (crcOf v Packet.MultiFrame) 2 (Current.Frame n) true ws) (placed (lengthAt d) n (bytesOf ws) m)
-  unfolding packetWords crcOf fedWords word dataWord mfwrWord hold fedCrc addressOf buffered stored storeWithin takesWords
+  unfolding packetWords crcOf fedWords word dataWord mfwrWord hold fedCrc addressOf buffered stored storeWithin
   multi-reaches =
       record {
         from = λ e h.

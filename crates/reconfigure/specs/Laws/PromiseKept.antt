@@ -14,6 +14,7 @@ use Rattle.parts.specs.FrameMemory.{frameOf}
 use Rattle.parts.specs.Laws.WordBytes.{AreBytes}
 use Rattle.answers.specs.declared.Answer.{Answer}
 use Rattle.answers.specs.declared.Answer.the-variants as Answer
+use Rattle.config.specs.PhaseTests.{isHunting}
 use Rattle.config.specs.declared.PartialWord.{PartialWord}
 use Rattle.config.specs.declared.Phase.{Phase}
 use Rattle.config.specs.declared.Phase.the-variants as Phase
@@ -24,11 +25,10 @@ use Rattle.compiler.specs.Compiled.{compiled}
 use Rattle.compiler.specs.Laws.CompilerAnswer.{compiled-accepts, compiled-written}
 use Rattle.loader.specs.Load.{load}
 use Rattle.reconfigure.specs.Laws.Demand3.{AwaitsSync, stream-effect}
-use Rattle.reconfigure.specs.Reconfigured.{isHunting, Reconfigured, reconfiguredAfter, reconfigured}
+use Rattle.reconfigure.specs.Reconfigured.{Reconfigured, reconfiguredAfter, reconfigured}
 use Rattle.reconfigure.specs.Promise.{Promised}
 
 hunting-window : (p : Phase) → isHunting p ≡ true → (b : PartialWord) × (p ≡ Phase.Hunting b)
-unfolding isHunting
 hunting-window (Phase.Hunting b) h = (b, refl)
 hunting-window (Phase.Header o) h = let z : _≡_ {A = ℕ} 0 1 = cc in absurd (omega arith)
 hunting-window (Phase.Data r left filled) h = let z : _≡_ {A = ℕ} 0 1 = cc in absurd (omega arith)

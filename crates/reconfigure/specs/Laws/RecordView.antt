@@ -6,6 +6,7 @@ use mathlib.Core.Bool.{Bool, true}
 use Prim.Native.Nat.{ℕ, _^_, _<_}
 use lib.ListN.{length, take}
 use Rattle.parts.specs.Table.{lengthAt}
+use Rattle.config.specs.PhaseTests.{takesWords}
 use Rattle.config.specs.declared.Open.the-variants as Open
 use Rattle.config.specs.DataWords.{word}
 use Rattle.config.specs.declared.PartialWord.{PartialWord}
@@ -16,7 +17,6 @@ use Rattle.config.specs.declared.Phase.the-variants as Phase
 use Rattle.config.specs.declared.Transition.{Transition}
 use Rattle.record.specs.declared.Record.{Record}
 use Rattle.loader.specs.Run.{recordAfter, memoryAfter}
-use Rattle.loader.specs.Laws.WordRun.{takesWords}
 use Rattle.reconfigure.specs.Laws.WordsReach.{Reaches, reaches-none, reaches-on, reaches-word}
 
 -- words: those of the frame buffer that count; room: how many it has in all

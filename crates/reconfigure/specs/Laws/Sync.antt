@@ -15,7 +15,7 @@ use Rattle.config.specs.declared.Control.{Control}
 use Rattle.config.specs.declared.Phase.{Phase}
 use Rattle.config.specs.declared.Phase.the-variants as Phase
 use Rattle.loader.specs.EventEffects.{buffered, stored}
-use Rattle.loader.specs.Run.{ran, after, isStopped, run}
+use Rattle.loader.specs.Run.{ran, after, run}
 use Rattle.loader.specs.Laws.Pieces.{byte-run}
 use Rattle.loader.specs.Inner.FillWords.{recordOf}
 use Rattle.reconfigure.specs.Laws.WordsReach.{Reaches, reaches-on}
@@ -23,7 +23,7 @@ use Rattle.reconfigure.specs.Laws.WordsReach.{Reaches, reaches-on}
 -- a byte of the hunt
 hunt-byte : (b : PartialWord) (p : Phase) (c : Control) (f m : List ℕ) (x : ℕ) (xs : List ℕ) → hunted b x ≡ p
     → run (recordOf (Phase.Hunting b) c f) m (x ∷ xs) ≡ after 1 (run (recordOf p (withPartial PartialWord.Zero c) f) m xs)
-unfolding byte buffered stored isStopped
+unfolding byte buffered stored
 hunt-byte b p c f m x xs e = byte-run (recordOf (Phase.Hunting b) c f) m x xs refl ∙ rw e
 
 -- the window with one byte more

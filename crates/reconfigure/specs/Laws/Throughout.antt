@@ -16,6 +16,7 @@ use Rattle.parts.specs.Laws.Figures.{length-fits}
 use Rattle.parts.specs.FrameMemory.{bytesOf, frameOf, placed}
 use Rattle.parts.specs.Laws.WordBytes.{AreBytes}
 use Rattle.parts.specs.Laws.FramePlacing.{placed-length, placed-reads-back, placed-other}
+use Rattle.config.specs.PhaseTests.{isStopped}
 use Rattle.config.specs.Laws.StaysSet.{byte-keeps}
 use Rattle.config.specs.declared.Event.{Event}
 use Rattle.config.specs.declared.Event.the-variants as Event
@@ -26,7 +27,7 @@ use Rattle.layout.specs.Layout.{check}
 use Rattle.layout.specs.declared.FrameRange.{FrameRange}
 use Rattle.compiler.specs.Compiled.{streamFor}
 use Rattle.loader.specs.EventEffects.{storeWithin, stored}
-use Rattle.loader.specs.Run.{isStopped, byteTransition, run}
+use Rattle.loader.specs.Run.{byteTransition, run}
 use Rattle.loader.specs.Load.{load}
 use Rattle.loader.specs.Laws.Pieces.{next, nextMemory, byte-run, stopped-run, run-append, Loadable, load-accepted}
 use Rattle.loader.specs.Inner.FrameStore.{frame-size}

@@ -8,13 +8,14 @@ use native.Mathlib.Omega.{arith}
 use lib.ListN.{length, length-append}
 use Rattle.parts.specs.FrameMemory.{bytesOf}
 use Rattle.parts.specs.Laws.WordBytes.{bytes-append, word-bytes}
+use Rattle.config.specs.PhaseTests.{takesWords}
 use Rattle.config.specs.DataWords.{word}
 use Rattle.config.specs.declared.PartialWord.the-variants as PartialWord
 use Rattle.config.specs.declared.Transition.{Transition}
 use Rattle.record.specs.declared.Record.{Record}
 use Rattle.loader.specs.Run.{after, recordAfter, memoryAfter, run}
 use Rattle.loader.specs.Laws.Pieces.{after-zero, after-after}
-use Rattle.loader.specs.Laws.WordRun.{takesWords, partial-empty, word-run}
+use Rattle.loader.specs.Laws.WordRun.{partial-empty, word-run}
 
 -- the words lead from record d and memory m to record e and memory k
 pub record Reaches (d : Record) (m ws : List ℕ) (e : Record) (k : List ℕ) : Type 0 where

@@ -1,5 +1,5 @@
 -- `reference::apply` meets its contract: the check's refusals, then the memory's length, then the steps.
--- By what an accepted check tells, once the verdict is known.
+-- By what an accepted check tells, once the answer is known.
 use mathlib.Core.Path.{_≡_, _∙_, refl, sym}
 use borrow.Author.Needs.{needs}
 use borrow.Author.Tests.{eq-eqb, ne-eqb}

@@ -1,4 +1,4 @@
--- `seamwillow::sw_apply` meets its contract: number and value of the verdict, and the memory.
+-- `seamwillow::sw_apply` meets its contract: number and value of the answer, and the memory.
 -- From what the three calls ensure.
 use mathlib.Core.Path.{_∙_, ap}
 use borrow.Author.Needs.{needs}

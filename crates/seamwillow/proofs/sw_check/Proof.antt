@@ -1,4 +1,4 @@
--- `seamwillow::sw_check` meets its contract: number and value of the verdict.
+-- `seamwillow::sw_check` meets its contract: number and value of the answer.
 -- From what the three calls ensure.
 use mathlib.Core.Path.{_∙_, ap}
 use borrow.Author.Needs.{needs}

@@ -1,4 +1,4 @@
--- `seamwillow::sw_compile` meets its contract: number and value of the verdict, and the output.
+-- `seamwillow::sw_compile` meets its contract: number and value of the answer, and the output.
 -- From what the three calls ensure.
 use mathlib.Core.Path.{_∙_, ap}
 use borrow.Author.Needs.{needs}

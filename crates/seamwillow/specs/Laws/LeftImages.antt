@@ -15,6 +15,7 @@ use Rattle.parts.specs.declared.table.PartAnswer.the-variants as PartAnswer
 use Rattle.answers.specs.AnswerNumbers.{loadNumber}
 use Rattle.answers.specs.declared.Answer.{Answer}
 use Rattle.answers.specs.declared.Answer.the-variants as Answer
+use Rattle.config.specs.PhaseTests.{isHunting}
 use Rattle.config.specs.declared.Event.{Event}
 use Rattle.config.specs.declared.Event.the-variants as Event
 use Rattle.record.specs.Consistency.{consistent}
@@ -31,7 +32,7 @@ use Rattle.layout.specs.Step.{Step, Reading}
 use Rattle.layout.specs.declared.FrameRange.{FrameRange}
 use Rattle.stream.specs.Stream.{wordsOf}
 use Rattle.compiler.specs.Compiled.{streamOf}
-use Rattle.reconfigure.specs.Reconfigured.{isHunting, Reconfigured, reconfiguredAfter, reconfigured}
+use Rattle.reconfigure.specs.Reconfigured.{Reconfigured, reconfiguredAfter, reconfigured}
 use Rattle.record_image.specs.Image.{image, recordLength}
 use Rattle.record_image.specs.Decode.{decoded}
 use Rattle.record_image.specs.Compare.{acceptedImage}

@@ -8,6 +8,7 @@ use mathlib.Core.Bool.{Bool, true, false, and-eq-true-iff}
 use lib.Dec.{eqb}
 use lib.ListN.{length}
 use borrow.Author.Tests.{eq-eqb, ne-eqb}
+use Rattle.config.specs.PhaseTests.{isHunting}
 use Rattle.record.specs.Consistency.{consistent}
 use Rattle.record.specs.declared.Record.{Record}
 use Rattle.answers.specs.AnswerNumbers.{answerNumber, loadNumber}
@@ -20,7 +21,7 @@ use Rattle.parts.specs.Table.{memoryAt}
 use Rattle.loader.specs.Load.{load}
 use Rattle.loader.specs.Laws.Pieces.{load-inconsistent, load-wrong-memory}
 use Rattle.layout.specs.declared.FrameRange.{FrameRange}
-use Rattle.reconfigure.specs.Reconfigured.{isHunting, reconfiguredAfter, reconfigured}
+use Rattle.reconfigure.specs.Reconfigured.{reconfiguredAfter, reconfigured}
 use Rattle.reconfigure.specs.Laws.AnswerCases.{inconsistent-so}
 use Rattle.record_image.specs.Image.{recordLength, encoded}
 use Rattle.record_image.specs.Decode.{decoded}

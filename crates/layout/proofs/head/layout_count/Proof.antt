@@ -1,4 +1,4 @@
--- `layout::head::layout_count` meets its contract: the steps, where they are at most 4096, or the cause that there are none.
+-- `layout::head::layout_count` meets its contract: the steps, where they are at most 4096, or the refusal that there are none.
 -- By computation, once the number is read, with the test of its value.
 use mathlib.Core.Path.{_∙_, sym}
 use native.Mathlib.Omega.{arith}

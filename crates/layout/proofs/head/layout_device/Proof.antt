@@ -1,4 +1,4 @@
--- `layout::head::layout_device` meets its contract: what follows a device number that is the desk's, or the cause of a refusal.
+-- `layout::head::layout_device` meets its contract: what follows a device number that is the desk's, or a refusal.
 -- By computation, once the number is read, with the test of its value.
 use mathlib.Core.Path.{_∙_, sym}
 use borrow.Author.Needs.{needs}

@@ -1,4 +1,4 @@
--- `layout::head::layout_edition` meets its contract: what follows edition 1, or the cause of a refusal.
+-- `layout::head::layout_edition` meets its contract: what follows edition 1, or a refusal.
 -- By computation, once the number is read, with the test of its value.
 use mathlib.Core.Path.{_∙_, sym}
 use borrow.Author.Needs.{needs}

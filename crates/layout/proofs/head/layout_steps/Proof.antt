@@ -1,5 +1,5 @@
 -- `layout::head::layout_steps` meets its contract. The invariant goes by what is left: the steps not yet read, over the words counted,
--- give the verdict that all of them give. A step has at most 414505 words, so that no sum wraps.
+-- give the answer that all of them give. A step has at most 414505 words, so that no sum wraps.
 use mathlib.Core.Path.{_≡_, _∙_, sym}
 use mathlib.Core.Logic.{⊎-elim}
 use Prim.Native.Nat.{ℕ, _+_, _*_, _≤_}

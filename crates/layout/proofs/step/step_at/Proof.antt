@@ -1,4 +1,4 @@
--- `layout::step::step_at` meets its contract: the step of the kind that is read, or the cause that has none.
+-- `layout::step::step_at` meets its contract: the step of the kind that is read, or the refusal of what has none.
 -- By computation, once the number is read, with the tests of the kind.
 use mathlib.Core.Path.{_∙_, sym}
 use borrow.Author.Needs.{needs}

@@ -1,5 +1,5 @@
 -- `layout::step::step_refusal` meets its contract: each arm has the number that the definition has.
--- By computation, once the case is known; a refusal has its cause's number.
+-- By computation, once the case is known; a refusal has its own number.
 use borrow.Author.Needs.{needs}
 use Rattle.layout.proofs.step.step_refusal.Statement.{statement}
 use Rattle.layout.proofs.step.step_refusal.Tie as tie

@@ -1,4 +1,4 @@
--- `layout::step::write_count` meets its contract: the step judged with the count, or the cause that has none.
+-- `layout::step::write_count` meets its contract: the step judged with the count, or the refusal of what has none.
 -- By computation, once the number is read.
 use mathlib.Core.Path.{_∙_, sym}
 use borrow.Author.Needs.{needs}

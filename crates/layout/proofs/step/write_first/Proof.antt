@@ -1,4 +1,4 @@
--- `layout::step::write_first` meets its contract: the step read on from the first frame, or the cause that has none.
+-- `layout::step::write_first` meets its contract: the step read on from the first frame, or the refusal of what has none.
 -- By computation, once the number is read.
 use mathlib.Core.Path.{_∙_, sym}
 use borrow.Author.Needs.{needs}

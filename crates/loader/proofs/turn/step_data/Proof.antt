@@ -3,7 +3,6 @@
 use mathlib.Core.Path.{refl}
 use borrow.Author.Needs.{needs}
 use denote.Ref.{now}
-use Rattle.loader.specs.Laws.WordRun.{takesWords}
 use Rattle.loader.proofs.turn.step_data.Statement.{statement}
 use Rattle.loader.proofs.turn.step_data.Tie as tie
 
@@ -17,8 +16,7 @@ fillable-requires : tie.Need-fillable-requires
 fillable-requires c κs = search needs
 
 step-word-requires : tie.Need-step-word-requires
-unfolding takesWords
-step-word-requires c κs = let s = c .before .before .before .before .before .before .before .before in (s .pre .0, refl, s .pre .1, s .pre .2)
+step-word-requires c κs = let s = c .before .before .before .before .before .before .before .before in (s .pre .0, refl, s .pre .1)
 
 same-length : tie.Need-same-length
 same-length c = search needs
@@ -30,8 +28,7 @@ step-fill-requires : tie.Need-step-fill-requires
 step-fill-requires c κs = search needs
 
 step-word-requires-2 : tie.Need-step-word-requires-2
-unfolding takesWords
-step-word-requires-2 c κs = let s = c .before .before .before .before .before in (s .pre .0, refl, s .pre .1, s .pre .2)
+step-word-requires-2 c κs = let s = c .before .before .before .before .before in (s .pre .0, refl, s .pre .1)
 
 returns-2 : tie.Need-returns-2
 returns-2 c = rw (c .before .before .before .before .enum-told .given .1) (c .step-fill .ensures (now (c .before .before .before .before .before .before .before .before .args .memory)))

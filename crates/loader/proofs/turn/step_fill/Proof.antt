@@ -26,7 +26,7 @@ returns c m =
     let a = s .args in
     let f = c .fill .ensures in
     rw (f .0, f .1 .0, f .1 .1)
-    (fill-turn (a .n) (a .left) (a .filled) (a .control) (now (a .frame)) m (now (a .bytes)) (a .i) (s .pre .0) (s .pre .1) (rw (s .pre .5) at (s .pre .2)) (s .pre .4) (s .pre .3))
+    (fill-turn (a .n) (a .left) (a .filled) (a .control) (now (a .frame)) m (now (a .bytes)) (a .i) (s .pre .0) (s .pre .1) (rw (s .pre .4 .1) at (s .pre .2)) (s .pre .4 .0) (s .pre .3))
 
 pub step-fill-spec : {M : Type 1} → statement M
 step-fill-spec = tie.close (tie.spec fill-requires sub-t16 add-t17 mul-t14 returns)

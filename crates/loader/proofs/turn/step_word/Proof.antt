@@ -14,7 +14,7 @@ word-requires : tie.Need-word-requires
 word-requires c κs = search needs
 
 finish-requires : tie.Need-finish-requires
-finish-requires c κs = rw (c .before .before .before .before .before .before .pre .3) (length-fits _)
+finish-requires c κs = rw (c .before .before .before .before .before .before .pre .2 .1) (length-fits _)
 
 same-length : tie.Need-same-length
 same-length c = search needs
@@ -24,8 +24,8 @@ returns c =
     let s = c .before .before .before .before .before .before .before .before .before in
     let a = s .args in
     let f = c .before .before .finish .ensures in
-    transition-turn (rw (c .before .before .before .before .before .before .word-at .ensures) at (c .before .before .before .before .before .word .ensures)) (s .pre .3) (f .0) (f .1 .0) (f .1 .1)
-    (word-turn (a .phase) (a .control) (now (a .frame)) (now (a .memory)) (now (a .bytes)) (a .i) (s .pre .1) (s .pre .2) (s .pre .0))
+    transition-turn (rw (c .before .before .before .before .before .before .word-at .ensures) at (c .before .before .before .before .before .word .ensures)) (s .pre .2 .1) (f .0) (f .1 .0) (f .1 .1)
+    (word-turn (a .phase) (a .control) (now (a .frame)) (now (a .memory)) (now (a .bytes)) (a .i) (s .pre .1) (s .pre .2 .0) (s .pre .0))
 
 pub step-word-spec : {M : Type 1} → statement M
 step-word-spec =

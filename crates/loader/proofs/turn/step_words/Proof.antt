@@ -2,7 +2,6 @@
 -- By the turns of the steps, once the phase is known.
 use native.Mathlib.Omega.{arith}
 use borrow.Author.Needs.{needs}
-use Rattle.loader.specs.Laws.WordRun.{takesWords}
 use Rattle.loader.proofs.turn.step_words.Statement.{statement}
 use Rattle.loader.proofs.turn.step_words.Tie as tie
 
@@ -10,8 +9,7 @@ enum-told : tie.Need-enum-told
 enum-told c = search needs
 
 step-word-requires : tie.Need-step-word-requires
-unfolding takesWords
-step-word-requires c κs = let s = c .before .before .before .before .before .before in (s .pre .0, rw (c .before .before .enum-told .given .1), s .pre .2, s .pre .3)
+step-word-requires c κs = let s = c .before .before .before .before .before .before in (s .pre .0, rw (c .before .before .enum-told .given .1), s .pre .2)
 
 enum-known-phase : tie.Need-enum-known-phase
 enum-known-phase c = search needs
@@ -23,20 +21,19 @@ enum-told-2 : tie.Need-enum-told-2
 enum-told-2 c = search needs
 
 step-word-requires-2 : tie.Need-step-word-requires-2
-unfolding takesWords
-step-word-requires-2 c κs = let s = c .before .before .before .before .before .before in (s .pre .0, rw (c .before .before .enum-told2 .given .1), s .pre .2, s .pre .3)
+step-word-requires-2 c κs = let s = c .before .before .before .before .before .before in (s .pre .0, rw (c .before .before .enum-told2 .given .1), s .pre .2)
 
 enum-told-3 : tie.Need-enum-told-3
 enum-told-3 c = search needs
 
 step-byte-requires : tie.Need-step-byte-requires
-step-byte-requires c κs = let s = c .before .before .before .before .before .before in (omega arith, s .pre .1, s .pre .3)
+step-byte-requires c κs = let s = c .before .before .before .before .before .before in (omega arith, s .pre .1, s .pre .2 .1)
 
 enum-told-4 : tie.Need-enum-told-4
 enum-told-4 c = search needs
 
 step-byte-requires-2 : tie.Need-step-byte-requires-2
-step-byte-requires-2 c κs = let s = c .before .before .before .before .before .before in (omega arith, s .pre .1, s .pre .3)
+step-byte-requires-2 c κs = let s = c .before .before .before .before .before .before in (omega arith, s .pre .1, s .pre .2 .1)
 
 same-length : tie.Need-same-length
 same-length c = search needs
