@@ -26,17 +26,16 @@ ghost use Prim.Native.Nat.{_+_, _≤_, _<_};
 ghost use lib.ListN.{length};
 ghost use Rattle.crc16.specs.NibbleTable.{entries};
 ghost use Rattle.parts.specs.Table.{lengthAt, countAt};
-ghost use Rattle.layout.specs.Step.{listed};
 ghost use Rattle.layout.specs.StepReading.{deskSteps};
 ghost use Rattle.layout.specs.Layout.{deskLayout};
 ghost use Rattle.layout.specs.Inner.TargetNumbers.{numbersAt};
 ghost use Rattle.layout.specs.Laws.AcceptedLayout.{isRead};
-ghost use Rattle.layout.specs.Inner.FirstStep.{stepOf, StepBytes};
-ghost use Rattle.stream.specs.Stream.{toFrame, further, spreadPackets, stepsPackets, heading};
+ghost use Rattle.layout.specs.Inner.FirstStep.{StepBytes};
+ghost use Rattle.stream.specs.Stream.{toFrame, further, spreadPackets, heading};
 ghost use Rattle.compiler.specs.Compiled.{streamFor, overwritten};
 ghost use Rattle.compiler.specs.Inner.WholeStream.{synced};
-ghost use Rattle.compiler.specs.Inner.PacketWriting.{Room, Written, cursorAt};
-ghost use Rattle.compiler.specs.Inner.StepPackets.{StepCount};
+ghost use Rattle.compiler.specs.Inner.PacketWriting.{Room, Written, Writes, cursorAt};
+ghost use Rattle.compiler.specs.Inner.StepPackets.{StepCount, packetsAt, listPackets, layoutPackets};
 
 // Writes a frame's address to FAR.
 fn put_address(
@@ -47,7 +46,7 @@ fn put_address(
     frame: u32,
 ) -> Cursor
     requires { ⌜ (now table ≡ entries 256 0) × (cursor .at + 8 ≤ length (now output)) ⌝ }
-    ensures { λ r. ⌜ Written (now (output .entry)) cursor (toFrame device frame ∷ []) (now (output .exit)) r ⌝ }
+    ensures { λ r. ⌜ Writes output cursor (toFrame device frame ∷ []) r ⌝ }
 {
     let address = address_at(device, frame);
     put_write(table, output, cursor, Register::Far, address)
@@ -64,7 +63,7 @@ fn put_further(
     start: usize,
 ) -> Cursor
     requires { ⌜ (now table ≡ entries 256 0) × Room (now output) cursor (further device (numbersAt (now layout) count start)) ⌝ }
-    ensures { λ r. ⌜ Written (now (output .entry)) cursor (further device (numbersAt (now (layout .entry)) count start)) (now (output .exit)) r ⌝ }
+    ensures { λ r. ⌜ Writes output cursor (further device (numbersAt (now (layout .entry)) count start)) r ⌝ }
 {
     let mut last = cursor;
     let mut more: u32 = count;
@@ -97,7 +96,7 @@ fn put_spread(
     targets: usize,
 ) -> Cursor
     requires { ⌜ (now table ≡ entries 256 0) × (0 < count) × Room (now output) cursor (spreadPackets device (numbersAt (now layout) count targets)) ⌝ }
-    ensures { λ r. ⌜ Written (now (output .entry)) cursor (spreadPackets device (numbersAt (now (layout .entry)) count targets)) (now (output .exit)) r ⌝ }
+    ensures { λ r. ⌜ Writes output cursor (spreadPackets device (numbersAt (now (layout .entry)) count targets)) r ⌝ }
 {
     let first = read_number(layout, targets);
     match first {
@@ -120,8 +119,8 @@ fn put_step(
     layout: &[u8],
     step: StepAt,
 ) -> Cursor
-    requires { ⌜ (now table ≡ entries 256 0) × StepBytes (lengthAt device) (now layout) step × StepCount (countAt device) step × Room (now output) cursor (stepsPackets device (stepOf (lengthAt device) (now layout) step)) ⌝ }
-    ensures { λ r. ⌜ Written (now (output .entry)) cursor (stepsPackets device (stepOf (lengthAt device) (now (layout .entry)) step)) (now (output .exit)) r ⌝ }
+    requires { ⌜ (now table ≡ entries 256 0) × StepBytes (lengthAt device) (now layout) step × StepCount (countAt device) step × Room (now output) cursor (packetsAt device (now layout) step) ⌝ }
+    ensures { λ r. ⌜ Writes output cursor (packetsAt device (now (layout .entry)) step) r ⌝ }
 {
     let l = length_at(device) as usize;
     match step {
@@ -160,8 +159,8 @@ fn put_steps(
     count: u32,
     start: usize,
 ) -> Cursor
-    requires { ⌜ (now table ≡ entries 256 0) × (isRead (deskSteps device range (now layout) count start) ≡ true) × Room (now output) cursor (stepsPackets device (listed (deskSteps device range (now layout) count start))) ⌝ }
-    ensures { λ r. ⌜ Written (now (output .entry)) cursor (stepsPackets device (listed (deskSteps device range (now (layout .entry)) count start))) (now (output .exit)) r ⌝ }
+    requires { ⌜ (now table ≡ entries 256 0) × (isRead (deskSteps device range (now layout) count start) ≡ true) × Room (now output) cursor (listPackets device range (now layout) count start) ⌝ }
+    ensures { λ r. ⌜ Writes output cursor (listPackets device range (now (layout .entry)) count start) r ⌝ }
 {
     let mut last = cursor;
     let mut left: u32 = count;
@@ -184,8 +183,8 @@ fn put_list(
     range: FrameRange,
     layout: &[u8],
 ) -> Cursor
-    requires { ⌜ (now table ≡ entries 256 0) × (device ≤ 7) × (isRead (deskLayout device range (now layout)) ≡ true) × Room (now output) cursor (stepsPackets device (listed (deskLayout device range (now layout)))) ⌝ }
-    ensures { λ r. ⌜ Written (now (output .entry)) cursor (stepsPackets device (listed (deskLayout device range (now (layout .entry))))) (now (output .exit)) r ⌝ }
+    requires { ⌜ (now table ≡ entries 256 0) × (device ≤ 7) × (isRead (deskLayout device range (now layout)) ≡ true) × Room (now output) cursor (layoutPackets device range (now layout)) ⌝ }
+    ensures { λ r. ⌜ Writes output cursor (layoutPackets device range (now (layout .entry))) r ⌝ }
 {
     let list = step_list(layout);
     put_steps(

@@ -3,6 +3,7 @@ use crate::packet::Cursor;
 use crate::packet::put_fed;
 use crate::packet::put_word;
 use crc16::CrcTable;
+use words::word_at;
 ghost use mathlib.Core.Path.{_≡_};
 ghost use mathlib.Core.List.{[], _∷_, _++_};
 ghost use Prim.Native.Nat.{ℕ, _+_, _*_, _≤_, _<_};
@@ -10,22 +11,9 @@ ghost use lib.ListN.{length, drop, replicate};
 ghost use Rattle.crc16.specs.CrcRegister.{fedWords};
 ghost use Rattle.crc16.specs.NibbleTable.{entries};
 ghost use Rattle.stream.specs.StreamPackets.{Packet};
-ghost use Rattle.stream.specs.Stream.{wordsFrom};
+ghost use Rattle.words.specs.WordsInBytes.{wordsFrom, putWords};
 ghost use Rattle.stream.specs.Laws.PacketsJoined.{crcAfter};
-ghost use Rattle.compiler.specs.Inner.Emitted.{putWords, emitted};
-ghost use Rattle.compiler.specs.Inner.FrameDataWords.{wordAt};
-
-// The word at an offset of the layout, high byte first.
-fn word_at(layout: &[u8], i: usize) -> u32
-    requires { ⌜ i + 4 ≤ length (now layout) ⌝ }
-    ensures { λ r. ⌜ r ≡ wordAt (now (layout .entry)) i ⌝ }
-{
-    let a = layout[i] as u32;
-    let b = layout[i + 1] as u32;
-    let c = layout[i + 2] as u32;
-    let d = layout[i + 3] as u32;
-    a * 16777216 + b * 65536 + c * 256 + d
-}
+ghost use Rattle.compiler.specs.Inner.Emitted.{emitted};
 
 // Copies n words of the layout from an offset on and feeds them for FDRI.
 fn put_data(

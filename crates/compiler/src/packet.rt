@@ -11,7 +11,8 @@ ghost use Rattle.crc16.specs.CrcRegister.{feed};
 ghost use Rattle.crc16.specs.NibbleTable.{entries};
 ghost use Rattle.stream.specs.StreamPackets.{Packet};
 ghost use Rattle.stream.specs.Laws.PacketsJoined.{crcAfter};
-ghost use Rattle.compiler.specs.Inner.Emitted.{putWords, emitted};
+ghost use Rattle.words.specs.WordsInBytes.{putWords};
+ghost use Rattle.compiler.specs.Inner.Emitted.{emitted};
 
 // Where the next word goes, and the CRC so far.
 pub struct Cursor {
@@ -19,7 +20,7 @@ pub struct Cursor {
     pub crc: u32,
 }
 
-// Writes a word, high byte first.
+// Writes a word that has room, high byte first. That of `words` tests its offset, which costs a stream of many targets a sixth.
 pub(crate) fn put_word(output: &mut [u8], at: usize, word: u32)
     requires { ⌜ at + 4 ≤ length (now output) ⌝ }
     ensures { λ _. ⌜ now (output .exit) ≡ putWords (now (output .entry)) at (word ∷ []) ⌝ }

@@ -1,8 +1,9 @@
 -- Bytes: the hunt for the sync word, and words from four bytes, high byte first.
 -- Sources: 001, "Command Words"; 01, "Words and packets", second paragraph.
-use Prim.Native.Nat.{ℕ, _+_, _*_, _^_}
+use Prim.Native.Nat.{ℕ}
 use mathlib.Core.Bool.{Bool, cond, _&&_}
 use lib.Dec.{eqb}
+use Rattle.words.specs.WordsInBytes.{wordOf}
 use Rattle.config.specs.ControlState.{withPartial, transition}
 use Rattle.config.specs.DataWords.{word}
 use Rattle.config.specs.declared.Open.the-variants as Open
@@ -25,9 +26,6 @@ hunted (PartialWord.Two a b) x = Phase.Hunting (PartialWord.Three a b x)
 hunted (PartialWord.Three a b c) x = cond (isSync a b c x) (Phase.Header Open.Closed) (Phase.Hunting (PartialWord.Three b c x))
 
 -- 01: "Then bytes are taken in fours, high byte first"
-abbrev pub wordOf : ℕ → ℕ → ℕ → ℕ → ℕ
-wordOf a b c d = a * 2 ^ 24 + b * 2 ^ 16 + c * 2 ^ 8 + d
-
 unfoldable pub gathered : PartialWord → Phase → Control → ℕ → Transition
 gathered PartialWord.Zero p c x = transition p (withPartial (PartialWord.One x) c) Event.Nothing
 gathered (PartialWord.One a) p c x = transition p (withPartial (PartialWord.Two a x) c) Event.Nothing

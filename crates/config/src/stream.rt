@@ -6,9 +6,10 @@ use crate::Phase;
 use crate::Transition;
 use crate::header::going;
 use crate::word;
+use words::word_of;
 ghost use mathlib.Core.Path.{_≡_};
 ghost use Rattle.config.specs.ControlState.{withPartial};
-ghost use Rattle.config.specs.StreamBytes.{isSync, hunted, wordOf, gathered};
+ghost use Rattle.config.specs.StreamBytes.{isSync, hunted, gathered};
 
 fn is_sync(a: u8, b: u8, c: u8, d: u8) -> bool
     ensures { λ r. ⌜ r ≡ isSync a b c d ⌝ }
@@ -40,13 +41,6 @@ pub(crate) fn hunted(window: PartialWord, x: u8) -> Phase
             Phase::Hunting(PartialWord::Three(b, c, x))
         }
     }
-}
-
-// The word of four bytes.
-pub(crate) fn word_of(a: u8, b: u8, c: u8, d: u8) -> u32
-    ensures { λ r. ⌜ r ≡ wordOf a b c d ⌝ }
-{
-    (a as u32) * 16777216 + (b as u32) * 65536 + (c as u32) * 256 + d as u32
 }
 
 pub(crate) fn with_partial(partial: PartialWord, control: Control) -> Control

@@ -5,7 +5,8 @@ use mathlib.Core.List.{List}
 use mathlib.Core.Bool.{cond}
 use lib.Dec.{leb}
 use lib.ListN.{length, take, set}
-use Rattle.parts.specs.FrameMemory.{bytesOf, placed}
+use Rattle.words.specs.WordsInBytes.{bytesOf}
+use Rattle.parts.specs.FrameMemory.{placed}
 use Rattle.config.specs.declared.Event.{Event}
 use Rattle.config.specs.declared.Event.the-variants as Event
 

@@ -1,3 +1,2 @@
 pub mod FillWords  -- words of frame data that only fill the frame buffer
-pub mod FrameStore  -- the bytes that the code sets one by one are the buffer's frame
 pub mod Turn  -- a turn of the load: a byte, a word, or words that only fill

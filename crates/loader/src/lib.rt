@@ -5,7 +5,6 @@ mod turn; // turn.rt: the next bytes of a piece
 
 use answers::LoadAnswer;
 use answers::Refusal;
-use config::Control;
 use config::Phase;
 use config::is_stopped;
 use record::Record;

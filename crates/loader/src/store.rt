@@ -1,11 +1,10 @@
 // The frame buffer and the memory, and what an event does to each.
 use config::Event;
 use record::FrameBuffer;
+use words::put_words;
 ghost use mathlib.Core.Path.{_≡_};
-ghost use Prim.Native.Nat.{_+_, _*_, _≤_};
-ghost use lib.ListN.{length, take, set};
-ghost use lib.Seq.{sets};
-ghost use Rattle.parts.specs.FrameMemory.{bytesOf};
+ghost use Prim.Native.Nat.{_≤_};
+ghost use lib.ListN.{length, set};
 ghost use Rattle.loader.specs.EventEffects.{storeWithin, buffered, stored};
 
 // States that a buffer passed by value has 213 words, which its type tells here; does nothing.
@@ -21,25 +20,6 @@ fn full(frame: &FrameBuffer)
     sized(words);
 }
 
-// Writes the first words of the buffer to the memory, high byte first, from a place on.
-fn write_words(words: usize, at: usize, frame: &FrameBuffer, memory: &mut [u8])
-    requires { ⌜ (words ≤ 213) × (at + 4 * words ≤ length (now memory)) ⌝ }
-    ensures { λ _. ⌜ now (memory .exit) ≡ sets (now (memory .entry)) at (bytesOf (take words (now (frame .entry)))) ⌝ }
-{
-    full(frame);
-    let mut i: usize = 0;
-    let mut j: usize = at;
-    while i < words {
-        let word = frame[i];
-        memory[j] = (word / 16777216 % 256) as u8;
-        memory[j + 1] = (word / 65536 % 256) as u8;
-        memory[j + 2] = (word / 256 % 256) as u8;
-        memory[j + 3] = (word % 256) as u8;
-        i += 1;
-        j += 4;
-    }
-}
-
 // Stores the first words of the buffer as a frame, where the memory holds that frame.
 fn store_within(words: u32, n: u32, frame: &FrameBuffer, memory: &mut [u8])
     requires { ⌜ words ≤ 213 ⌝ }
@@ -49,7 +29,9 @@ fn store_within(words: u32, n: u32, frame: &FrameBuffer, memory: &mut [u8])
     let at = size * n as usize;
     if at + size <= memory.len() {
         full(frame);
-        write_words(words as usize, at, frame, memory);
+        let count = words as usize;
+        let buffer = &frame[..];
+        put_words(memory, at, &buffer[..count]);
     }
 }
 

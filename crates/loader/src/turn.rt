@@ -1,6 +1,5 @@
 // The next bytes of a piece: words that only fill the buffer, a word, or a byte.
 use crate::fill::fill;
-use crate::fill::word_at;
 use crate::store::apply;
 use config::Control;
 use config::PartialWord;
@@ -8,6 +7,7 @@ use config::Phase;
 use config::Transition;
 use record::FrameBuffer;
 use registers::Register;
+use words::word_at;
 ghost use mathlib.Core.Path.{_≡_};
 ghost use mathlib.Core.Bool.{true, false};
 ghost use mathlib.Core.List.{List};

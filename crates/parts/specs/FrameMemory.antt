@@ -1,13 +1,8 @@
 -- The memory of a part: frames of 4·L bytes, one after the other.
 -- Source: 01, "The eight parts": "Memory is 4·L·F bytes, frame 0 first, each word high byte first".
-use Prim.Native.Nat.{ℕ, _+_, _*_, _/_, _%_, _^_}
-use mathlib.Core.List.{List, [], _∷_, _++_}
+use Prim.Native.Nat.{ℕ, _+_, _*_}
+use mathlib.Core.List.{List, _++_}
 use lib.ListN.{take, drop}
-
--- the bytes of words, high byte first
-unfoldable pub bytesOf : List ℕ → List ℕ
-bytesOf [] = []
-bytesOf (w ∷ ws) = w / 2 ^ 24 % 2 ^ 8 ∷ w / 2 ^ 16 % 2 ^ 8 ∷ w / 2 ^ 8 % 2 ^ 8 ∷ w % 2 ^ 8 ∷ bytesOf ws
 
 -- the bytes of frame k, of frames of l words
 unfoldable pub frameOf : ℕ → ℕ → List ℕ → List ℕ

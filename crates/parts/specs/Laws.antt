@@ -1,4 +1,3 @@
-pub mod WordBytes  -- bytes of words: how many, that they join as the words do, and that four are their word again
 pub mod Cases  -- what holds in both cases of a test holds of what the test picks
 pub mod Figures  -- a device number of at most 7 names a part; L, F and the memory's length at the number
 pub mod FrameNumbers  -- a part's columns are in order and have F frames, so number and address give each other

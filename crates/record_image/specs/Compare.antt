@@ -1,19 +1,14 @@
 -- Comparing bytes with an image, and the images that are accepted.
 -- Source: docs/C-INTERFACE.md: "An image that is the image of no consistent record is refused with 22".
 use Prim.Native.Nat.{ℕ}
-use mathlib.Core.List.{List, [], _∷_}
-use mathlib.Core.Bool.{Bool, true, false, _&&_}
+use mathlib.Core.List.{List}
+use mathlib.Core.Bool.{Bool, _&&_}
 use lib.Dec.{eqb}
 use lib.ListN.{length}
+use Rattle.words.specs.WordsInBytes.{starts}
 use Rattle.record.specs.declared.Record.{Record}
 use Rattle.record_image.specs.Image.{recordLength, image}
 use Rattle.record_image.specs.Decode.{decoded}
-
--- the second list starts with the first
-unfoldable pub starts : List ℕ → List ℕ → Bool
-starts [] ys = true
-starts (x ∷ xs) [] = false
-starts (x ∷ xs) (y ∷ ys) = eqb y x && starts xs ys
 
 -- the bytes are the record's image
 unfoldable pub isImage : Record → List ℕ → Bool

@@ -1,11 +1,10 @@
 -- The record that bytes would be the image of: total, with any reading for numbers that name nothing.
 -- Source: docs/C-INTERFACE.md, "The record's image, edition 1"; each definition cites its row of the table.
-use Prim.Native.Nat.{ℕ, zero, suc, _+_, _*_, _-_, _/_, _%_, _^_}
-use mathlib.Core.List.{List, [], _∷_}
+use Prim.Native.Nat.{ℕ, _*_, _-_, _/_, _%_, _^_}
+use mathlib.Core.List.{List}
 use mathlib.Core.Bool.{cond}
 use lib.Dec.{eqb}
-use lib.ListN.{getD}
-use Rattle.config.specs.StreamBytes.{wordOf}
+use Rattle.words.specs.WordsInBytes.{wordAt, wordsAt}
 use Rattle.registers.specs.RegisterAddresses.{registerAt}
 use Rattle.registers.specs.declared.Register.{Register}
 use Rattle.registers.specs.declared.RegisterAnswer.{RegisterAnswer}
@@ -26,14 +25,9 @@ use Rattle.config.specs.declared.Phase.{Phase}
 use Rattle.config.specs.declared.Phase.the-variants as Phase
 use Rattle.record.specs.declared.Record.{Record}
 
--- "words of 32 bits, high byte first"; bytes that are missing are 0
-unfoldable pub wordAt : List ℕ → ℕ → ℕ
-wordAt bytes k = wordOf (getD bytes (4 * k) 0) (getD bytes (4 * k + 1) 0) (getD bytes (4 * k + 2) 0) (getD bytes (4 * k + 3) 0)
-
--- n words from word k on
-unfoldable pub wordsAt : List ℕ → ℕ → ℕ → List ℕ
-wordsAt bytes k zero = []
-wordsAt bytes k (suc n) = wordAt bytes k ∷ wordsAt bytes (suc k) n
+-- word k: "words of 32 bits, high byte first"; bytes that are missing are 0
+abbrev pub imageWord : List ℕ → ℕ → ℕ
+imageWord bytes k = wordAt bytes (4 * k)
 
 -- ---- words 1 to 6: the phase
 
@@ -110,35 +104,35 @@ flagsOf n = record {
 -- 9 to 23: "registers 0 to 14 at their addresses; 9 is the CRC register"
 unfoldable pub registersOf : List ℕ → Registers
 registersOf bytes = record {
-  crc = wordAt bytes 9;
-  far = wordAt bytes 10;
-  fdri = wordAt bytes 11;
-  cmd = wordAt bytes 13;
-  ctl = wordAt bytes 14;
-  mask = wordAt bytes 15;
-  lout = wordAt bytes 17;
-  cor = wordAt bytes 18;
-  mfwr = wordAt bytes 19;
-  flr = wordAt bytes 20;
-  idcode = wordAt bytes 23;
+  crc = imageWord bytes 9;
+  far = imageWord bytes 10;
+  fdri = imageWord bytes 11;
+  cmd = imageWord bytes 13;
+  ctl = imageWord bytes 14;
+  mask = imageWord bytes 15;
+  lout = imageWord bytes 17;
+  cor = imageWord bytes 18;
+  mfwr = imageWord bytes 19;
+  flr = imageWord bytes 20;
+  idcode = imageWord bytes 23;
 }
 
 -- 0: "device number"
 unfoldable pub controlOf : List ℕ → PartialWord → Control
 controlOf bytes partial = record {
-  device = wordAt bytes 0;
+  device = imageWord bytes 0;
   registers = registersOf bytes;
-  flags = flagsOf (wordAt bytes 8);
-  current = currentOf (wordAt bytes 7);
+  flags = flagsOf (imageWord bytes 8);
+  current = currentOf (imageWord bytes 7);
   partial = partial;
 }
 
 -- ---- the record
 
--- 24 to 236: "the frame buffer's 213 words"
+-- 24 to 236: "the frame buffer's 213 words", from byte 96 on
 unfoldable pub decoded : List ℕ → Record
 decoded bytes = record {
-  phase = phaseOf (wordAt bytes 1) (wordAt bytes 2) (wordAt bytes 3) (wordAt bytes 4) (pendingOf (wordAt bytes 5) (wordAt bytes 6));
-  control = controlOf bytes (partialOf (wordAt bytes 1) (pendingOf (wordAt bytes 5) (wordAt bytes 6)));
-  frame = wordsAt bytes 24 213;
+  phase = phaseOf (imageWord bytes 1) (imageWord bytes 2) (imageWord bytes 3) (imageWord bytes 4) (pendingOf (imageWord bytes 5) (imageWord bytes 6));
+  control = controlOf bytes (partialOf (imageWord bytes 1) (pendingOf (imageWord bytes 5) (imageWord bytes 6)));
+  frame = wordsAt bytes 96 213;
 }

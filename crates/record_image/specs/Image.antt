@@ -19,7 +19,7 @@ use Rattle.config.specs.declared.Control.{Control}
 use Rattle.config.specs.declared.Phase.{Phase}
 use Rattle.config.specs.declared.Phase.the-variants as Phase
 use Rattle.record.specs.declared.Record.{Record}
-use Rattle.parts.specs.FrameMemory.{bytesOf}
+use Rattle.words.specs.WordsInBytes.{bytesOf}
 
 -- ---- words 1 to 4: the phase
 

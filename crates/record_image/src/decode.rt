@@ -1,5 +1,4 @@
 // Bytes into the device record that they would be the image of.
-use crate::words::word_at;
 use answers::Stop;
 use config::Control;
 use config::Current;
@@ -12,8 +11,19 @@ use record::FrameBuffer;
 use record::Record;
 use registers::Register;
 use registers::RegisterAnswer;
+use words::word_at;
 ghost use mathlib.Core.Path.{_≡_};
-ghost use Rattle.record_image.specs.Decode.{openOf, registerOf, stopOf, pendingOf, phaseOf, partialOf, currentOf, flagsOf, registersOf, controlOf, wordsAt, decoded};
+ghost use Prim.Native.Nat.{_<_};
+ghost use Rattle.record_image.specs.Decode.{openOf, registerOf, stopOf, pendingOf, phaseOf, partialOf, currentOf, flagsOf, registersOf, controlOf, imageWord, decoded};
+ghost use Rattle.words.specs.WordsInBytes.{wordsAt};
+
+// Word k of an image.
+fn image_word(image: &[u8], k: usize) -> u32
+    requires { ⌜ k < 237 ⌝ }
+    ensures { λ r. ⌜ r ≡ imageWord (now (image .entry)) k ⌝ }
+{
+    word_at(image, 4 * k)
+}
 
 // Word 2 of a header.
 fn open_of(number: u32) -> Open
@@ -132,17 +142,17 @@ fn registers_of(image: &[u8]) -> Registers
     ensures { λ r. ⌜ r ≡ registersOf (now (image .entry)) ⌝ }
 {
     Registers {
-        crc: word_at(image, 9),
-        far: word_at(image, 10),
-        fdri: word_at(image, 11),
-        cmd: word_at(image, 13),
-        ctl: word_at(image, 14),
-        mask: word_at(image, 15),
-        lout: word_at(image, 17),
-        cor: word_at(image, 18),
-        mfwr: word_at(image, 19),
-        flr: word_at(image, 20),
-        idcode: word_at(image, 23),
+        crc: image_word(image, 9),
+        far: image_word(image, 10),
+        fdri: image_word(image, 11),
+        cmd: image_word(image, 13),
+        ctl: image_word(image, 14),
+        mask: image_word(image, 15),
+        lout: image_word(image, 17),
+        cor: image_word(image, 18),
+        mfwr: image_word(image, 19),
+        flr: image_word(image, 20),
+        idcode: image_word(image, 23),
     }
 }
 
@@ -151,22 +161,22 @@ fn control_of(image: &[u8], partial: PartialWord) -> Control
     ensures { λ r. ⌜ r ≡ controlOf (now (image .entry)) partial ⌝ }
 {
     Control {
-        device: word_at(image, 0),
+        device: image_word(image, 0),
         registers: registers_of(image),
-        flags: flags_of(word_at(image, 8)),
-        current: current_of(word_at(image, 7)),
+        flags: flags_of(image_word(image, 8)),
+        current: current_of(image_word(image, 7)),
         partial: partial,
     }
 }
 
 // Words 24 to 236.
 fn frame_of(image: &[u8]) -> FrameBuffer
-    ensures { λ r. ⌜ r ≡ wordsAt (now (image .entry)) 24 213 ⌝ }
+    ensures { λ r. ⌜ r ≡ wordsAt (now (image .entry)) 96 213 ⌝ }
 {
     let mut frame = [0u32; 213];
     let mut i: usize = 0;
     while i < 213 {
-        frame[i] = word_at(image, 24 + i);
+        frame[i] = image_word(image, 24 + i);
         i += 1;
     }
     frame
@@ -176,13 +186,13 @@ fn frame_of(image: &[u8]) -> FrameBuffer
 pub fn decode(image: &[u8]) -> Record
     ensures { λ r. ⌜ r ≡ decoded (now (image .entry)) ⌝ }
 {
-    let number = word_at(image, 1);
-    let bytes = pending_of(word_at(image, 5), word_at(image, 6));
+    let number = image_word(image, 1);
+    let bytes = pending_of(image_word(image, 5), image_word(image, 6));
     let phase = phase_of(
         number,
-        word_at(image, 2),
-        word_at(image, 3),
-        word_at(image, 4),
+        image_word(image, 2),
+        image_word(image, 3),
+        image_word(image, 4),
         bytes,
     );
     let control = control_of(image, partial_of(number, bytes));

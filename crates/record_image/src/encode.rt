@@ -1,9 +1,9 @@
 // A device record into its image, and the test that bytes are its image.
 use crate::RECORD_LENGTH;
 use crate::head::head;
-use crate::words::has_words;
-use crate::words::put_words;
 use record::Record;
+use words::has_words;
+use words::put_words;
 ghost use mathlib.Core.Path.{_≡_};
 ghost use Rattle.record_image.specs.Image.{encoded};
 ghost use Rattle.record_image.specs.Compare.{isImage};

@@ -2,7 +2,6 @@
 pub mod decode;
 pub mod encode;
 mod head;
-mod words;
 
 // The bytes of an image: 237 words of 32 bits.
 pub const RECORD_LENGTH: usize = 948;

@@ -1,20 +1,15 @@
 -- The stream that a part's configuration is changed by, for a list of steps.
 -- Source: 01, "The stream that is written".
-use Prim.Native.Nat.{ℕ, zero, suc, _+_, _-_, _*_, _^_}
+use Prim.Native.Nat.{ℕ, _-_}
 use mathlib.Core.List.{List, [], _∷_, _++_}
-use lib.ListN.{getD, drop, replicate}
+use lib.ListN.{replicate}
 use Rattle.parts.specs.Table.{idcodeAt, lengthAt}
-use Rattle.parts.specs.FrameMemory.{bytesOf}
+use Rattle.words.specs.WordsInBytes.{bytesOf, wordsFrom}
 use Rattle.parts.specs.FrameAddress.{addressAt}
 use Rattle.registers.specs.CommandCodes.{WCFG, MFWR, RCRC, DESYNC}
 use Rattle.registers.specs.declared.Register.the-variants as Register
 use Rattle.layout.specs.Step.{Step, FrameWrite, MultiFrameWrite}
 use Rattle.stream.specs.StreamPackets.{Packet, packetsWords}
-
--- k words of bytes, high byte first
-unfoldable pub wordsFrom : ℕ → List ℕ → List ℕ
-wordsFrom zero xs = []
-wordsFrom (suc k) xs = (getD xs 0 0 * 2 ^ 24 + getD xs 1 0 * 2 ^ 16 + getD xs 2 0 * 2 ^ 8 + getD xs 3 0) ∷ wordsFrom k (drop 4 xs)
 
 -- frames of l words each, one after the other
 unfoldable pub framesWords : ℕ → List (List ℕ) → List ℕ

@@ -5,8 +5,8 @@ use mathlib.Core.List.{[], _∷_}
 use Prim.Native.Nat.{ℕ}
 use lib.ListN.{replicate}
 use Rattle.crc16.specs.CrcRegister.{input, shift, shiftIn, feed, leaving, checkWord}
+use Rattle.words.specs.WordsInBytes.{bytesOf}
 use Rattle.parts.specs.Table.{parts, partOf, figureOf, idcodeOf, frameLength, frameCount}
-use Rattle.parts.specs.FrameMemory.{bytesOf}
 use Rattle.answers.specs.AnswerNumbers.{answerNumber, answerValue}
 use Rattle.registers.specs.RegisterAddresses.{addressOf}
 use Rattle.numbers.specs.Number.{lastGroup, lowGroup, groups}

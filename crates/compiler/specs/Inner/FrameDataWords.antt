@@ -1,24 +1,14 @@
--- Words of frame data: the next word of the layout, and words that are written and fed one after the other for FDRI.
+-- Words of frame data that are written and fed one after the other for FDRI.
 -- By the definitions' own steps: what is left, done from here on, gives what all of it gives from the start.
 use mathlib.Core.Path.{_≡_, _∙_, refl}
 use mathlib.Core.List.{List, [], _∷_}
-use Prim.Native.Nat.{ℕ, suc, _+_, _*_, _^_}
-use native.Mathlib.Nat.{add-zero}
-use lib.ListN.{length, getD, drop}
-use lib.Seq.{getD-drop, drop-drop, length-sets}
-use Rattle.parts.specs.FrameMemory.{bytesOf}
+use Prim.Native.Nat.{ℕ, _+_}
+use lib.ListN.{length}
+use lib.Seq.{length-sets}
+use Rattle.words.specs.WordsInBytes.{bytesOf, putWords}
+use Rattle.words.specs.Laws.WordStores.{put-append}
 use Rattle.crc16.specs.CrcRegister.{feed, fedWords}
-use Rattle.stream.specs.Stream.{wordsFrom}
-use Rattle.compiler.specs.Inner.Emitted.{putWords, put-append}
 use Rattle.compiler.specs.declared.packet.Cursor.{Cursor}
-
--- the word at an offset, high byte first
-abbrev pub wordAt : List ℕ → ℕ → ℕ
-wordAt s i = getD s i 0 * 2 ^ 24 + getD s (i + 1) 0 * 2 ^ 16 + getD s (i + 2) 0 * 2 ^ 8 + getD s (i + 3) 0
-
-pub words-next : (k i : ℕ) (s : List ℕ) → wordsFrom (suc k) (drop i s) ≡ wordAt s i ∷ wordsFrom k (drop (i + 4) s)
-unfolding wordsFrom
-words-next k i s = rw (getD-drop i s 0 0, getD-drop i s 1 0, getD-drop i s 2 0, getD-drop i s 3 0, drop-drop 4 i s, add-zero)
 
 -- all words ws from a cursor on give what the rest of them gives from a later one on
 pub record Left (out₀ : List ℕ) (cursor : Cursor) (ws out : List ℕ) (here : Cursor) (rest : List ℕ) : Type 0 where

@@ -6,10 +6,12 @@ use Prim.Native.Nat.{ℕ, _+_, _*_, _≤_}
 use native.Mathlib.Omega.{arith}
 use lib.ListN.{length, replicate, length-append, length-replicate}
 use lib.Seq.{length-sets}
-use Rattle.parts.specs.FrameMemory.{bytesOf}
+use denote.Ref.{RefT, now}
+use denote.Triple.Both.{Both}
+use Rattle.words.specs.WordsInBytes.{bytesOf, wordsFrom}
 use Rattle.stream.specs.StreamPackets.{Packet, packetsWords}
-use Rattle.stream.specs.Stream.{wordsFrom}
-use Rattle.stream.specs.Laws.StreamLength.{size, sizes, sizes-append, words-length}
+use Rattle.stream.specs.Laws.StreamLength.{size, sizes, sizes-append}
+use Rattle.words.specs.Laws.WordBytes.{words-length}
 use Rattle.stream.specs.Laws.PacketsJoined.{crcAfter, crc-append}
 use Rattle.compiler.specs.Inner.Emitted.{emitted, emit-append}
 use Rattle.compiler.specs.declared.packet.Cursor.{Cursor}
@@ -34,6 +36,10 @@ pub record Written (out : List ℕ) (cursor : Cursor) (ps : List Packet) (after 
   pub place : end .at ≡ cursor .at + 4 * sizes ps
   pub crc : end .crc ≡ crcAfter (cursor .crc) ps
   pub bytes : after ≡ emitted out (cursor .at) (cursor .crc) ps
+
+-- the same of an output that is lent
+abbrev pub Writes : Both (RefT (List ℕ)) (RefT (List ℕ)) → Cursor → List Packet → Cursor → Type 0
+Writes output cursor ps end = Written (now (output .entry)) cursor ps (now (output .exit)) end
 
 module _ {out : List ℕ} {cursor : Cursor} {ps : List Packet} {after : List ℕ} {end : Cursor} (w : Written out cursor ps after end) where
   pub written-length : length after ≡ length out

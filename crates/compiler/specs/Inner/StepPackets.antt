@@ -11,16 +11,30 @@ use Rattle.parts.specs.Table.{lengthAt, countAt}
 use Rattle.parts.specs.Laws.Figures.{length-fits, count-fits}
 use Rattle.answers.specs.declared.Refusal.{Refusal}
 use Rattle.layout.specs.Step.{Step, listed}
-use Rattle.layout.specs.StepReading.{stepAt, stepsAt, stepOffset}
+use Rattle.layout.specs.StepReading.{stepAt, stepsAt, stepOffset, deskSteps}
+use Rattle.layout.specs.Layout.{deskLayout}
 use Rattle.layout.specs.Laws.StepViews.{write-view, multi-view}
 use Rattle.layout.specs.Inner.TargetNumbers.{numbersAt}
 use Rattle.layout.specs.Laws.AcceptedLayout.{isRead}
 use Rattle.layout.specs.Inner.FirstStep.{stepOf, steps-none, steps-first}
+use Rattle.layout.specs.declared.FrameRange.{FrameRange}
 use Rattle.layout.specs.declared.step.StepAt.{StepAt}
 use Rattle.layout.specs.declared.step.StepAt.the-variants as StepAt
 use Rattle.stream.specs.StreamPackets.{Packet}
-use Rattle.stream.specs.Stream.{wordsFrom, toFrame, further, spreadPackets, stepPackets, stepsPackets}
-use Rattle.stream.specs.Laws.FrameWords.{words-take, frames-from}
+use Rattle.words.specs.WordsInBytes.{wordsFrom}
+use Rattle.stream.specs.Stream.{toFrame, further, spreadPackets, stepPackets, stepsPackets}
+use Rattle.words.specs.Laws.WordReads.{words-take}
+use Rattle.stream.specs.Laws.FrameWords.{frames-from}
+
+-- the packets of a step that was read, of the steps of a list, and of a layout's, as a desk reads them
+abbrev pub packetsAt : ℕ → List ℕ → StepAt → List Packet
+packetsAt d b s = stepsPackets d (stepOf (lengthAt d) b s)
+
+abbrev pub listPackets : ℕ → FrameRange → List ℕ → ℕ → ℕ → List Packet
+listPackets d r b n at = stepsPackets d (listed (deskSteps d r b n at))
+
+abbrev pub layoutPackets : ℕ → FrameRange → List ℕ → List Packet
+layoutPackets d r b = stepsPackets d (listed (deskLayout d r b))
 
 -- a step's frames are of a part of f frames, or it has a target
 abbrev pub StepCount : ℕ → StepAt → Type 0

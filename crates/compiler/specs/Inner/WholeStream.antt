@@ -8,15 +8,15 @@ use native.Mathlib.Nat.{zero-add}
 use native.Mathlib.Omega.{arith}
 use lib.ListN.{length, drop}
 use lib.Seq.{length-sets, sets-eq}
-use Rattle.parts.specs.FrameMemory.{bytesOf}
-use Rattle.parts.specs.Laws.WordBytes.{bytes-length}
+use Rattle.words.specs.WordsInBytes.{bytesOf, putWords}
+use Rattle.words.specs.Laws.WordBytes.{bytes-length}
+use Rattle.words.specs.Laws.WordStores.{put-append}
 use Rattle.layout.specs.Step.{Step, Reading, listed}
 use Rattle.layout.specs.Laws.AcceptedLayout.{isRead}
 use Rattle.stream.specs.StreamPackets.{packetsWords}
 use Rattle.stream.specs.Stream.{streamPackets, wordsOf, stream}
 use Rattle.stream.specs.Laws.StreamLength.{packets-size}
 use Rattle.compiler.specs.Compiled.{streamOf, overwritten}
-use Rattle.compiler.specs.Inner.Emitted.{putWords, put-append}
 use Rattle.compiler.specs.Inner.PacketWriting.{cursorAt, Room, Written}
 use Rattle.compiler.specs.declared.packet.Cursor.{Cursor}
 

@@ -12,7 +12,8 @@ use Rattle.config.specs.ControlState.{withPartial, raised}
 use Rattle.config.specs.PacketHeaders.{ready, counted, begin, typeOneWrite, obeyed, packet, headerWord}
 use Rattle.config.specs.Commands.{signalled, acted}
 use Rattle.config.specs.DataWords.{checked, farWord, cmdWord, frameStored, fdriWord, mfwrStored, mfwrWord, idcodeWord, flrWord, dataWord, word}
-use Rattle.config.specs.StreamBytes.{gathered, wordOf, byte}
+use Rattle.words.specs.WordsInBytes.{wordOf}
+use Rattle.config.specs.StreamBytes.{gathered, byte}
 use Rattle.registers.specs.declared.RegisterAnswer.{RegisterAnswer}
 use Rattle.registers.specs.declared.RegisterAnswer.the-variants as RegisterAnswer
 use Rattle.registers.specs.declared.Register.{Register}

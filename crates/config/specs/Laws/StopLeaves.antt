@@ -15,13 +15,12 @@ use Rattle.config.specs.ControlState.{withRegisters, withPartial, transi
 use Rattle.config.specs.PacketHeaders.{ready, counted, begin, typeOneWrite, obeyed, packet}
 use Rattle.config.specs.Commands.{commandPhase, acted}
 use Rattle.config.specs.DataWords.{ended, onward, checked, crcWord, farWord, cmdWord, frameStored, fdriWord, mfwrStored, mfwrWord, idcodeWord, flrWord, dataWord, word}
-use Rattle.config.specs.StreamBytes.{isSync, hunted, gathered, wordOf, byte}
+use Rattle.words.specs.WordsInBytes.{wordOf}
+use Rattle.config.specs.StreamBytes.{isSync, hunted, gathered, byte}
 use Rattle.registers.specs.declared.RegisterAnswer.{RegisterAnswer}
 use Rattle.registers.specs.declared.RegisterAnswer.the-variants as RegisterAnswer
 use Rattle.registers.specs.declared.Register.{Register}
 use Rattle.registers.specs.declared.Register.the-variants as Register
-use Rattle.config.specs.declared.Open.{Open}
-use Rattle.config.specs.declared.Open.the-variants as Open
 use Rattle.config.specs.declared.PacketHeader.{PacketHeader}
 use Rattle.config.specs.declared.PacketHeader.the-variants as PacketHeader
 use Rattle.config.specs.declared.Current.{Current}

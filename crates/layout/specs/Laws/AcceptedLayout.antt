@@ -1,6 +1,6 @@
 -- What an accepted check tells: the device has a part, the layout was read, its step count stands at offset 2.
 -- The layout's edition and device are numbers under 128, of one byte each; a reading for the whole part gives the same steps.
-use mathlib.Core.Path.{_≡_, _∙_, refl, sym, ap, subst}
+use mathlib.Core.Path.{_≡_, _∙_, refl, sym, subst}
 use Prim.Native.Nat.{ℕ, _+_, _*_, _≤_, _<_}
 use mathlib.Core.List.{List}
 use mathlib.Core.Bool.{Bool, true, false}

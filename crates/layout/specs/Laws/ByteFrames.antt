@@ -5,7 +5,7 @@ use Prim.Native.Nat.{ℕ, zero, suc, _*_}
 use mathlib.Core.List.{List, [], _∷_}
 use mathlib.Core.Bool.{Bool}
 use lib.ListN.{drop}
-use Rattle.parts.specs.Laws.WordBytes.{AreBytes, bytes-take, bytes-drop}
+use Rattle.words.specs.Laws.ByteLists.{AreBytes, bytes-take, bytes-drop}
 use Rattle.layout.specs.Step.{Step, FrameWrite, MultiFrameWrite, Read, listed, frames}
 use Rattle.layout.specs.StepReading.{stepsAt}
 use Rattle.layout.specs.Layout.{layoutRead}

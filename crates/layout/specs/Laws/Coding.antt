@@ -9,7 +9,7 @@ use mathlib.Core.Bool.{Bool}
 use lib.Dec.{lit<}
 use lib.ListN.{length, take, drop, length-append, length-drop, take-append-drop, drop-of-length-le}
 use lib.Seq.{take-at, drop-at, drop-drop, drop-append-seam}
-use Rattle.parts.specs.Laws.WordBytes.{AreBytes}
+use Rattle.words.specs.Laws.ByteLists.{AreBytes}
 use Rattle.numbers.specs.Number.{numberAt}
 use Rattle.numbers.specs.declared.Number.the-variants as Number
 use Rattle.numbers.specs.Laws.ShortestForm.{code, read-code, number-spans, code-read}

@@ -5,7 +5,7 @@ use Prim.Native.Nat.{ℕ, _+_, _≤_, _<_}
 use mathlib.Core.List.{List}
 use native.Mathlib.Omega.{arith}
 use borrow.Author.Tests.{le-ltb, lt-ltb, ne-eqb}
-use Rattle.parts.specs.Table.{partOf, figureOf, frameCount, countAt, lengthAt}
+use Rattle.parts.specs.Table.{partOf, figureOf, countAt, lengthAt}
 use Rattle.answers.specs.declared.Refusal.{Refusal}
 use Rattle.answers.specs.declared.Refusal.the-variants as Refusal
 use Rattle.numbers.specs.Number.{numberAt}

@@ -5,7 +5,7 @@ use mathlib.Core.List.{List, [], _∷_}
 use mathlib.Core.Bool.{true, false}
 use Prim.Native.Nat.{ℕ, zero, suc, _+_, _-_, _*_, _≤_, _<_}
 use native.Mathlib.Nat.{zero-add, add-zero, sub-zero}
-use native.Mathlib.Numerals.{add-one, towards-suc}
+use native.Mathlib.Numerals.{add-one}
 use native.Mathlib.Omega.{arith}
 use lib.ListN.{length, getD, drop, set}
 use lib.Seq.{drop-cons}
@@ -17,7 +17,8 @@ use Rattle.config.specs.PhaseTests.{isStopped, takesWords}
 use Rattle.config.specs.RegisterWrites.{fedCrc, hold}
 use Rattle.config.specs.ControlState.{withRegisters, transition}
 use Rattle.config.specs.DataWords.{fdriWord, dataWord, word}
-use Rattle.config.specs.StreamBytes.{wordOf}
+use Rattle.words.specs.WordsInBytes.{wordAt, wordsFrom, wordsAt}
+use Rattle.words.specs.Laws.WordReads.{four-bytes, words-next}
 use Rattle.registers.specs.declared.Register.the-variants as Register
 use Rattle.config.specs.declared.Registers.{Registers}
 use Rattle.config.specs.declared.PartialWord.the-variants as PartialWord
@@ -32,15 +33,6 @@ use Rattle.config.specs.declared.Event.the-variants as Event
 use Rattle.record.specs.declared.Record.{Record}
 
 -- ---- definitions
-
--- the word at an offset
-abbrev pub wordAt : List ℕ → ℕ → ℕ
-wordAt s i = wordOf (getD s i 0) (getD s (i + 1) 0) (getD s (i + 2) 0) (getD s (i + 3) 0)
-
--- n words from an offset on
-unfoldable pub wordsAt : ℕ → List ℕ → ℕ → List ℕ
-wordsAt zero s i = []
-wordsAt (suc n) s i = wordAt s i ∷ wordsAt n s (i + 4)
 
 -- the last of the words
 unfoldable pub lastOf : List ℕ → ℕ → ℕ
@@ -67,14 +59,10 @@ pub run-byte : (d : Record) (m s : List ℕ) (i : ℕ) → isStopped (d .phase) 
     → run d m (drop i s) ≡ after 1 (run (recordAfter (byteTransition d (getD s i 0)) d) (memoryAfter (byteTransition d (getD s i 0)) d m) (drop (i + 1) s))
 run-byte d m s i g h = rw (add-one i, drop-cons s i 0 h) (byte-run d m (getD s i 0) (drop (suc i) s) g)
 
-four : (s : List ℕ) (i : ℕ) → i + 4 ≤ length s → drop i s ≡ getD s i 0 ∷ getD s (i + 1) 0 ∷ getD s (i + 2) 0 ∷ getD s (i + 3) 0 ∷ drop (i + 4) s
-four s i h =
-    simp towards-suc
-    (rw (drop-cons s i 0 (omega arith), drop-cons s (suc i) 0 (omega arith), drop-cons s (suc (suc i)) 0 (omega arith), drop-cons s (suc (suc (suc i))) 0 (omega arith)))
-
 pub run-word : (d : Record) (m s : List ℕ) (i : ℕ) → takesWords (d .phase) ≡ true → d .control .partial ≡ PartialWord.Zero → i + 4 ≤ length s
     → run d m (drop i s) ≡ after 4 (run (recordAfter (wordTransition d (wordAt s i)) d) (memoryAfter (wordTransition d (wordAt s i)) d m) (drop (i + 4) s))
-run-word d m s i t e h = rw (four s i h) (word-run d t m (getD s i 0) (getD s (i + 1) 0) (getD s (i + 2) 0) (getD s (i + 3) 0) (drop (i + 4) s) e)
+unfolding wordAt
+run-word d m s i t e h = rw (four-bytes s i h) (word-run d t m (getD s i 0) (getD s (i + 1) 0) (getD s (i + 2) 0) (getD s (i + 3) 0) (drop (i + 4) s) e)
 
 -- ---- a word that only fills
 
@@ -91,8 +79,8 @@ filled-on w ws c = refl
 pub run-filling : (n left filled : ℕ) (c : Control) (f m s : List ℕ) (i : ℕ)
     → n < left → filled + n < lengthAt (c .device) → c .partial ≡ PartialWord.Zero → i + 4 * n ≤ length s
     → run (recordOf (Phase.Data Register.Fdri left filled) c f) m (drop i s)
-    ≡ after (4 * n) (run (recordOf (Phase.Data Register.Fdri (left - n) (filled + n)) (filledControl (wordsAt n s i) c) (keptAll (wordsAt n s i) filled f)) m (drop (i + 4 * n) s))
-unfolding wordsAt keptAll fedWords lastOf buffered stored
+    ≡ after (4 * n) (run (recordOf (Phase.Data Register.Fdri (left - n) (filled + n)) (filledControl (wordsAt s i n) c) (keptAll (wordsAt s i n) filled f)) m (drop (i + 4 * n) s))
+unfolding wordsFrom keptAll fedWords lastOf buffered stored
 run-filling zero left filled c f m s i hl hf hp hs = simp (sub-zero, add-zero, zero-add)
 run-filling (suc n) left filled c f m s i hl hf hp hs =
     let w = wordAt s i in
@@ -100,8 +88,8 @@ run-filling (suc n) left filled c f m s i hl hf hp hs =
     let e₂ : filled + 1 + n ≡ filled + suc n = omega arith in
     let e₃ : i + 4 + 4 * n ≡ i + 4 * suc n = omega arith in
     let e₄ : 4 + 4 * n ≡ 4 * suc n = omega arith in
-    run-word (recordOf (Phase.Data Register.Fdri left filled) c f) m s i refl hp (omega arith)
+    rw (words-next s i n) (run-word (recordOf (Phase.Data Register.Fdri left filled) c f) m s i refl hp (omega arith)
     ∙ rw (partial-empty c hp, fills left filled c w (omega arith) (omega arith))
     (ap (after 4) (run-filling n (left - 1) (filled + 1) (filledControl (w ∷ []) c) (set f filled w) m s (i + 4) (omega arith) (omega arith) hp (omega arith))
     ∙ after-after 4 (4 * n) _
-    ∙ rw (e₁, e₂, e₃, e₄))
+    ∙ rw (e₁, e₂, e₃, e₄)))

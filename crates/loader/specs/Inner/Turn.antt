@@ -20,9 +20,10 @@ use Rattle.config.specs.declared.Transition.{Transition}
 use Rattle.config.specs.declared.Phase.{Phase}
 use Rattle.config.specs.declared.Phase.the-variants as Phase
 use Rattle.loader.specs.EventEffects.{buffered, stored}
+use Rattle.words.specs.WordsInBytes.{wordAt, wordsAt}
 use Rattle.loader.specs.Run.{after, recordAfter, memoryAfter, run}
 use Rattle.loader.specs.Laws.WordRun.{partial-empty}
-use Rattle.loader.specs.Inner.FillWords.{recordOf, wordAt, wordsAt, keptAll, filledControl, run-byte, run-word, run-filling}
+use Rattle.loader.specs.Inner.FillWords.{recordOf, keptAll, filledControl, run-byte, run-word, run-filling}
 use Rattle.loader.specs.declared.turn.Turned.{Turned}
 use Rattle.record.specs.declared.Record.{Record}
 
@@ -76,5 +77,5 @@ transition-turn ey ew r ef ek h = rw (ef, ek, r .0, r .1, r .2, ey, ew) h
 pub fill-turn : (n left filled : ℕ) (c : Control) (f m s : List ℕ) (i : ℕ)
     → 1 ≤ n → n < left → filled + n < lengthAt (c .device) → c .partial ≡ PartialWord.Zero → i + 4 * n ≤ length s
     → Turn (recordOf (Phase.Data Register.Fdri left filled) c f) m
-    (recordOf (Phase.Data Register.Fdri (left - n) (filled + n)) (filledControl (wordsAt n s i) c) (keptAll (wordsAt n s i) filled f)) m s i (4 * n)
+    (recordOf (Phase.Data Register.Fdri (left - n) (filled + n)) (filledControl (wordsAt s i n) c) (keptAll (wordsAt s i n) filled f)) m s i (4 * n)
 fill-turn n left filled c f m s i h hl hf e hs = record { some = omega arith; within = hs; same = refl; runs = run-filling n left filled c f m s i hl hf e hs }

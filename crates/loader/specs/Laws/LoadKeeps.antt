@@ -14,8 +14,9 @@ use Rattle.config.specs.ControlState.{withPartial, stopped}
 use Rattle.record.specs.Consistency.{consistent}
 use Rattle.record.specs.Laws.StaysConsistent.{byte-consistent}
 use Rattle.config.specs.Laws.StaysSet.{Grown, grown-refl, grown-trans, byte-keeps}
+use Rattle.words.specs.WordsInBytes.{wordOf}
 use Rattle.config.specs.Laws.StopLeaves.{leftAt, left-partial, word-stops}
-use Rattle.config.specs.StreamBytes.{wordOf, byte}
+use Rattle.config.specs.StreamBytes.{byte}
 use Rattle.config.specs.declared.Control.{Control}
 use Rattle.config.specs.declared.Transition.{Transition}
 use Rattle.answers.specs.declared.Stop.{Stop}

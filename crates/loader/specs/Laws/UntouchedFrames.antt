@@ -20,7 +20,7 @@ use Rattle.loader.specs.Load.{load}
 use Rattle.loader.specs.Laws.Pieces.{next, nextMemory, run-induction, run-invariant, load-cases}
 use Rattle.parts.specs.FrameMemory.{frameOf}
 use Rattle.parts.specs.Laws.FramePlacing.{placed-length, placed-other}
-use Rattle.loader.specs.Inner.FrameStore.{frame-size}
+use Rattle.words.specs.Laws.WordBytes.{first-bytes}
 use Rattle.record.specs.declared.Record.{Record}
 
 -- the frame that an event stores
@@ -69,7 +69,7 @@ module _ (l : ℕ) (m : List ℕ) where
       elim (decLe (4 * l * n + 4 * l) (length m)) [
         | yes fit ↦
             rw (le-leb (4 * l * n + 4 * l) (length m) fit)
-            (record { size = placed-length l n _ m fit (frame-size l f full); frames = λ k apart. placed-other l n _ m fit (frame-size l f full) k (apart n (List·Memᴰ·head refl)) })
+            (record { size = placed-length l n _ m fit (first-bytes l f full); frames = λ k apart. placed-other l n _ m fit (first-bytes l f full) k (apart n (List·Memᴰ·head refl)) })
         | no out ↦ rw (lt-leb (4 * l * n + 4 * l) (length m) (omega arith)) untouched-same
       ]
 

@@ -8,7 +8,8 @@ use native.Mathlib.Omega.{arith}
 use Rattle.config.specs.PhaseTests.{isStopped, takesWords}
 use Rattle.config.specs.Laws.TakesWords.{takes-gathers, takes-runs}
 use Rattle.config.specs.ControlState.{withPartial}
-use Rattle.config.specs.StreamBytes.{wordOf, gathered}
+use Rattle.words.specs.WordsInBytes.{wordOf}
+use Rattle.config.specs.StreamBytes.{gathered}
 use Rattle.config.specs.DataWords.{word}
 use Rattle.config.specs.declared.PartialWord.{PartialWord}
 use Rattle.config.specs.declared.PartialWord.the-variants as PartialWord

@@ -10,7 +10,7 @@ use lib.Dec.{eqb, ltb}
 use lib.ListN.{length, drop, length-drop}
 use lib.Seq.{drop-drop}
 use borrow.Author.Tests.{lt-ltb, le-ltb, eq-eqb, ne-eqb, ltb-true, ltb-false, not-false}
-use Rattle.parts.specs.Laws.WordBytes.{AreBytes, bytes-drop}
+use Rattle.words.specs.Laws.ByteLists.{AreBytes, bytes-drop}
 use Rattle.answers.specs.declared.Refusal.{Refusal}
 use Rattle.numbers.specs.Number.{lastGroup, lowGroup, groups, numberAt}
 use Rattle.numbers.specs.declared.Number.{Number}

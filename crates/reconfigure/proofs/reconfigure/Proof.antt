@@ -10,8 +10,8 @@ use lib.Seq.{length-take-le}
 use borrow.Author.Needs.{needs}
 use borrow.Author.Tests.{not-true, not-false}
 use denote.Ref.{now}
+use Rattle.words.specs.Laws.ByteLists.{AreBytes, all-bytes}
 use Rattle.config.specs.PhaseTests.{isHunting}
-use Rattle.parts.specs.Laws.WordBytes.{AreBytes, all-bytes}
 use Rattle.parts.specs.Table.{memoryAt}
 use Rattle.answers.specs.declared.Answer.the-variants as Answer
 use Rattle.record.specs.Consistency.{consistent}

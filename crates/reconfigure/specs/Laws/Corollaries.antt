@@ -9,7 +9,7 @@ use lib.ListN.{length}
 use Rattle.parts.specs.Table.{lengthAt}
 use Rattle.parts.specs.Laws.Figures.{length-fits}
 use Rattle.parts.specs.FrameMemory.{frameOf}
-use Rattle.parts.specs.Laws.WordBytes.{AreBytes}
+use Rattle.words.specs.Laws.ByteLists.{AreBytes}
 use Rattle.answers.specs.declared.LoadAnswer.the-variants as LoadAnswer
 use Rattle.answers.specs.declared.Answer.the-variants as Answer
 use Rattle.config.specs.declared.PartialWord.the-variants as PartialWord
@@ -20,7 +20,7 @@ use Rattle.layout.specs.ReferenceMachine.{machine}
 use Rattle.layout.specs.declared.FrameRange.{FrameRange}
 use Rattle.compiler.specs.Compiled.{streamFor}
 use Rattle.loader.specs.Load.{load}
-use Rattle.loader.specs.Laws.Pieces.{Loadable, load-accepted, later}
+use Rattle.loader.specs.Laws.Pieces.{load-accepted, later}
 use Rattle.loader.specs.Laws.UntouchedFrames.{run-buffer, load-keeps}
 use Rattle.loader.specs.Laws.LoadKeeps.{load-pieces}
 use Rattle.reconfigure.specs.Laws.Demand3.{AwaitsSync, stream-effect}

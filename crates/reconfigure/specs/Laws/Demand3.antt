@@ -8,7 +8,7 @@ use lib.ListN.{length, take}
 use Rattle.parts.specs.Table.{lengthAt, countAt, memoryAt}
 use Rattle.parts.specs.Laws.Figures.{memory-size}
 use Rattle.parts.specs.FrameMemory.{frameOf}
-use Rattle.parts.specs.Laws.WordBytes.{AreBytes}
+use Rattle.words.specs.Laws.ByteLists.{AreBytes}
 use Rattle.answers.specs.declared.LoadAnswer.the-variants as LoadAnswer
 use Rattle.answers.specs.declared.Answer.the-variants as Answer
 use Rattle.config.specs.declared.PartialWord.{PartialWord}
@@ -29,7 +29,7 @@ use Rattle.compiler.specs.Compiled.{streamOf, streamFor, compiled}
 use Rattle.compiler.specs.Laws.CompilerAnswer.{accepted-length, compiled-accepts, compiled-written}
 use Rattle.loader.specs.Run.{run, ran}
 use Rattle.loader.specs.Load.{answerOf, finished, load}
-use Rattle.loader.specs.Laws.Pieces.{Loadable, load-accepted}
+use Rattle.loader.specs.Laws.Pieces.{load-accepted}
 use Rattle.loader.specs.Laws.UntouchedFrames.{run-device}
 use Rattle.loader.specs.Laws.LoadKeeps.{load-consistent}
 use Rattle.reconfigure.specs.Promise.{Effect}

@@ -11,7 +11,8 @@ use borrow.Author.Tests.{le-leb, lt-leb, le-ltb}
 use Rattle.crc16.specs.CrcRegister.{feed, fedWords, checkWord}
 use Rattle.crc16.specs.Laws.CheckWord.{check-word-passes, check-word-small}
 use Rattle.parts.specs.Table.{lengthAt}
-use Rattle.parts.specs.FrameMemory.{bytesOf, placed}
+use Rattle.words.specs.WordsInBytes.{bytesOf}
+use Rattle.parts.specs.FrameMemory.{placed}
 use Rattle.registers.specs.RegisterAddresses.{addressOf}
 use Rattle.registers.specs.declared.Register.the-variants as Register
 use Rattle.config.specs.declared.Open.the-variants as Open

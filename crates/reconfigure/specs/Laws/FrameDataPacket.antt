@@ -13,7 +13,9 @@ use Rattle.crc16.specs.Laws.FedWords.{fed-append}
 use Rattle.parts.specs.Table.{lengthAt, countAt}
 use Rattle.parts.specs.Laws.Figures.{length-fits, count-fits}
 use Rattle.parts.specs.FrameMemory.{placed}
-use Rattle.parts.specs.Laws.WordBytes.{AreWords, AreBytes}
+use Rattle.words.specs.WordsInBytes.{wordsFrom}
+use Rattle.words.specs.Laws.ByteLists.{AreWords, AreBytes}
+use Rattle.words.specs.Laws.WordBytes.{words-small, bytes-words, words-length}
 use Rattle.parts.specs.Laws.FramePlacing.{frame-end, placed-length}
 use Rattle.registers.specs.RegisterAddresses.{addressOf}
 use Rattle.registers.specs.Laws.AddressLookup.{register-address}
@@ -31,9 +33,8 @@ use Rattle.layout.specs.Laws.AcceptedSteps.{Sized}
 use Rattle.layout.specs.Laws.ByteFrames.{AllBytes}
 use Rattle.layout.specs.ReferenceMachine.{framesWritten}
 use Rattle.stream.specs.StreamPackets.{Packet, header1, header2, packetWords}
-use Rattle.stream.specs.Stream.{wordsFrom, framesWords}
-use Rattle.stream.specs.Laws.StreamLength.{words-length, frames-words}
-use Rattle.stream.specs.Laws.WordsAndBytes.{words-small, bytes-words}
+use Rattle.stream.specs.Stream.{framesWords}
+use Rattle.stream.specs.Laws.StreamLength.{frames-words}
 use Rattle.loader.specs.EventEffects.{buffered, stored}
 use Rattle.reconfigure.specs.Laws.Headers.{header-fits, header-one, header-two}
 use Rattle.reconfigure.specs.Laws.RecordView.{View, stands, waiting, moved, word-reaches, ReachesView, view-none, view-on}

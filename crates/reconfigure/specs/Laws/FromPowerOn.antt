@@ -5,7 +5,7 @@ use mathlib.Core.List.{List}
 use Prim.Native.Nat.{ℕ, _≤_}
 use lib.ListN.{length, replicate, take, length-replicate}
 use Rattle.parts.specs.Table.{memoryAt}
-use Rattle.parts.specs.Laws.WordBytes.{AreBytes}
+use Rattle.words.specs.Laws.ByteLists.{AreBytes}
 use Rattle.answers.specs.declared.Answer.the-variants as Answer
 use Rattle.config.specs.declared.PartialWord.the-variants as PartialWord
 use Rattle.record.specs.PowerOn.{freshControl, fresh, powerOn}

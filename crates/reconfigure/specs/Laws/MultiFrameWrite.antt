@@ -9,7 +9,8 @@ use lib.ListN.{length}
 use borrow.Author.Tests.{le-leb}
 use Rattle.crc16.specs.CrcRegister.{feed, fedWords}
 use Rattle.parts.specs.Table.{lengthAt}
-use Rattle.parts.specs.FrameMemory.{bytesOf, placed}
+use Rattle.words.specs.WordsInBytes.{bytesOf}
+use Rattle.parts.specs.FrameMemory.{placed}
 use Rattle.registers.specs.RegisterAddresses.{addressOf}
 use Rattle.registers.specs.Laws.AddressLookup.{register-address}
 use Rattle.registers.specs.declared.Register.the-variants as Register

@@ -11,7 +11,7 @@ use borrow.Author.Tests.{eqb-true}
 use Rattle.parts.specs.Laws.Cases.{either}
 use Rattle.parts.specs.Table.{lengthAt, memoryAt}
 use Rattle.parts.specs.FrameMemory.{frameOf}
-use Rattle.parts.specs.Laws.WordBytes.{AreBytes}
+use Rattle.words.specs.Laws.ByteLists.{AreBytes}
 use Rattle.answers.specs.declared.Answer.{Answer}
 use Rattle.answers.specs.declared.Answer.the-variants as Answer
 use Rattle.config.specs.PhaseTests.{isHunting}

@@ -9,7 +9,9 @@ use lib.ListN.{length, replicate, length-replicate}
 use Rattle.parts.specs.Table.{lengthAt, countAt}
 use Rattle.parts.specs.Laws.Figures.{figures}
 use Rattle.parts.specs.FrameMemory.{placed}
-use Rattle.parts.specs.Laws.WordBytes.{AreBytes, zero-words}
+use Rattle.words.specs.WordsInBytes.{wordsFrom}
+use Rattle.words.specs.Laws.ByteLists.{AreBytes, zero-words}
+use Rattle.words.specs.Laws.WordBytes.{words-small, bytes-words, words-length}
 use Rattle.parts.specs.Laws.FramePlacing.{frame-end, placed-length}
 use Rattle.answers.specs.AnswerNumbers.{answerValue}
 use Rattle.parts.specs.FrameAddress.{addressAt}
@@ -23,10 +25,8 @@ use Rattle.layout.specs.Laws.ByteFrames.{ByteStep, ByteSteps}
 use Rattle.layout.specs.ReferenceMachine.{framesWritten, spread, stepApplied, stepsApplied}
 use Rattle.layout.specs.Laws.UnownedFrames.{done-keeps}
 use Rattle.stream.specs.StreamPackets.{Packet, crcOf, packetWords, packetsWords}
-use Rattle.stream.specs.Stream.{wordsFrom, framesWords, toFrame, further, spreadPackets, stepPackets, stepsPackets}
+use Rattle.stream.specs.Stream.{framesWords, toFrame, further, spreadPackets, stepPackets, stepsPackets}
 use Rattle.stream.specs.Laws.PacketsJoined.{crcAfter, words-append, crc-append}
-use Rattle.stream.specs.Laws.StreamLength.{words-length}
-use Rattle.stream.specs.Laws.WordsAndBytes.{words-small, bytes-words}
 use Rattle.reconfigure.specs.Laws.RecordView.{View, waiting, ReachesView, view-none, view-on}
 use Rattle.reconfigure.specs.Laws.RegisterPackets.{Quiet, wcfg-quiet, mfwr-quiet, command-reaches, address-reaches}
 use Rattle.reconfigure.specs.Laws.MultiFrameWrite.{multi-reaches}

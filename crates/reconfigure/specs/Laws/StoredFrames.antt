@@ -10,8 +10,10 @@ use lib.ListN.{length, set}
 use lib.Seq.{sets}
 use Rattle.crc16.specs.CrcRegister.{feed, fedWords}
 use Rattle.parts.specs.Table.{lengthAt}
-use Rattle.parts.specs.FrameMemory.{bytesOf, placed}
-use Rattle.parts.specs.Laws.WordBytes.{AreWords, sets-all}
+use Rattle.words.specs.WordsInBytes.{bytesOf}
+use Rattle.words.specs.Laws.ByteLists.{AreWords}
+use Rattle.words.specs.Laws.WordStores.{sets-all}
+use Rattle.parts.specs.FrameMemory.{placed}
 use Rattle.config.specs.DataWords.{stepped}
 use Rattle.config.specs.declared.Current.{Current}
 use Rattle.config.specs.declared.Current.the-variants as Current

@@ -5,7 +5,7 @@ use mathlib.Core.List.{List, [], _∷_}
 use mathlib.Core.Bool.{and-false}
 use Prim.Native.Nat.{ℕ}
 use native.Mathlib.Omega.{arith}
-use Rattle.parts.specs.FrameMemory.{bytesOf}
+use Rattle.words.specs.WordsInBytes.{bytesOf}
 use Rattle.config.specs.declared.Open.the-variants as Open
 use Rattle.config.specs.ControlState.{withPartial}
 use Rattle.config.specs.StreamBytes.{isSync, hunted, byte}

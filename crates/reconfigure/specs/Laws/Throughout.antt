@@ -13,8 +13,9 @@ use lib.Dec.{eqb}
 use borrow.Author.Tests.{le-leb, lt-leb, eqb-true, eqb-false}
 use Rattle.parts.specs.Table.{lengthAt}
 use Rattle.parts.specs.Laws.Figures.{length-fits}
-use Rattle.parts.specs.FrameMemory.{bytesOf, frameOf, placed}
-use Rattle.parts.specs.Laws.WordBytes.{AreBytes}
+use Rattle.words.specs.WordsInBytes.{bytesOf}
+use Rattle.words.specs.Laws.ByteLists.{AreBytes}
+use Rattle.parts.specs.FrameMemory.{frameOf, placed}
 use Rattle.parts.specs.Laws.FramePlacing.{placed-length, placed-reads-back, placed-other}
 use Rattle.config.specs.PhaseTests.{isStopped}
 use Rattle.config.specs.Laws.StaysSet.{byte-keeps}
@@ -29,8 +30,8 @@ use Rattle.compiler.specs.Compiled.{streamFor}
 use Rattle.loader.specs.EventEffects.{storeWithin, stored}
 use Rattle.loader.specs.Run.{byteTransition, run}
 use Rattle.loader.specs.Load.{load}
-use Rattle.loader.specs.Laws.Pieces.{next, nextMemory, byte-run, stopped-run, run-append, Loadable, load-accepted}
-use Rattle.loader.specs.Inner.FrameStore.{frame-size}
+use Rattle.loader.specs.Laws.Pieces.{next, nextMemory, byte-run, stopped-run, run-append, load-accepted}
+use Rattle.words.specs.Laws.WordBytes.{first-bytes}
 use Rattle.loader.specs.Laws.UntouchedFrames.{buffered-length, run-device, run-buffer, run-keeps}
 use Rattle.reconfigure.specs.Laws.Demand3.{AwaitsSync, stream-effect}
 
@@ -54,7 +55,7 @@ module _ (l j n : ℕ) (x f m m′ : List ℕ) (full : l ≤ length f) (p : Pair
   place-near fits = record { size = placed-length l n _ m′ fits′ size ∙ p .size ∙ sym (placed-length l n _ m fits size); near = go (eqb n j) refl }
     where
       size : length (bytesOf (take l f)) ≡ 4 * l
-      size = frame-size l f full
+      size = first-bytes l f full
 
       fits′ : 4 * l * n + 4 * l ≤ length m′
       fits′ = omega (arith, p .size)

@@ -11,8 +11,8 @@ use lib.Seq.{length-take-le}
 use borrow.Author.Tests.{eq-eqb}
 use Rattle.parts.specs.Table.{idcodeAt, lengthAt, countAt}
 use Rattle.parts.specs.Laws.Figures.{figures, length-fits, idcode-fits}
-use Rattle.parts.specs.FrameMemory.{bytesOf}
-use Rattle.parts.specs.Laws.WordBytes.{bytes-length}
+use Rattle.words.specs.WordsInBytes.{bytesOf}
+use Rattle.words.specs.Laws.WordBytes.{bytes-length}
 use Rattle.registers.specs.RegisterAddresses.{addressOf}
 use Rattle.registers.specs.CommandCodes.{RCRC, DESYNC}
 use Rattle.registers.specs.declared.Register.the-variants as Register

@@ -6,8 +6,8 @@ use mathlib.Core.Bool.{true}
 use Prim.Native.Nat.{ℕ, _+_, _*_, _/_, _%_, _^_, _<_}
 use native.Mathlib.Omega.{arith}
 use lib.ListN.{length, length-append}
-use Rattle.parts.specs.FrameMemory.{bytesOf}
-use Rattle.parts.specs.Laws.WordBytes.{bytes-append, word-bytes}
+use Rattle.words.specs.WordsInBytes.{bytesOf}
+use Rattle.words.specs.Laws.WordBytes.{bytes-append, word-bytes}
 use Rattle.config.specs.PhaseTests.{takesWords}
 use Rattle.config.specs.DataWords.{word}
 use Rattle.config.specs.declared.PartialWord.the-variants as PartialWord

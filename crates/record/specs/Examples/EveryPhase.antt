@@ -6,8 +6,8 @@ use mathlib.Core.Bool.{Bool, true}
 use Prim.Native.Nat.{ℕ}
 use lib.ListN.{replicate}
 use Rattle.crc16.specs.CrcRegister.{input, shift, shiftIn, feed}
+use Rattle.words.specs.WordsInBytes.{bytesOf}
 use Rattle.parts.specs.Table.{parts, partOf, figureOf, idcodeOf, frameLength, frameCount}
-use Rattle.parts.specs.FrameMemory.{bytesOf}
 use Rattle.registers.specs.RegisterAddresses.{addressOf, registerAt}
 use Rattle.registers.specs.declared.Register.the-variants as Register
 use Rattle.config.specs.declared.Open.the-variants as Open

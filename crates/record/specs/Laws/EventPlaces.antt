@@ -16,7 +16,8 @@ use Rattle.config.specs.ControlState.{withPartial}
 use Rattle.config.specs.PacketHeaders.{headerWord}
 use Rattle.config.specs.Commands.{acted}
 use Rattle.config.specs.DataWords.{checked, crcWord, farWord, cmdWord, frameStored, fdriWord, mfwrStored, mfwrWord, idcodeWord, flrWord, dataWord, word}
-use Rattle.config.specs.StreamBytes.{gathered, wordOf, byte}
+use Rattle.words.specs.WordsInBytes.{wordOf}
+use Rattle.config.specs.StreamBytes.{gathered, byte}
 use Rattle.record.specs.Consistency.{currentFits, dataFits, phaseFits, consistent}
 use Rattle.config.specs.Laws.StaysSet.{header-plain}
 use Rattle.record.specs.Laws.StaysConsistent.{Consistent, to-items, to-filling, partial-fine}

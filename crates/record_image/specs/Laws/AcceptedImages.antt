@@ -3,20 +3,20 @@
 use mathlib.Core.Path.{_≡_, _∙_, sym, ap}
 use mathlib.Core.Bool.{true, and-eq-true-iff}
 use mathlib.Core.List.{List}
-use Prim.Native.Nat.{ℕ, zero, suc, _+_, _*_, _^_, _<_}
+use Prim.Native.Nat.{ℕ, _*_, _^_, _<_}
 use native.Mathlib.Omega.{arith}
 use lib.Dec.{eqb}
-use lib.ListN.{length}
+use lib.ListN.{length, drop}
 use borrow.Author.Tests.{eq-eqb, eqb-true}
 use Rattle.parts.specs.Laws.Cases.{either}
-use Rattle.parts.specs.Laws.WordBytes.{AreWords, AreBytes, byte-at, bytes-small}
+use Rattle.words.specs.Laws.ByteLists.{AreBytes, bytes-drop}
+use Rattle.words.specs.Laws.WordBytes.{bytes-small, word-small, words-small, words-length}
 use Rattle.config.specs.declared.PartialWord.{PartialWord}
 use Rattle.record.specs.declared.Record.{Record}
 use Rattle.record_image.specs.Image.{imageWords, image, recordLength, encoded}
 use Rattle.record_image.specs.Compare.{isImage, acceptedImage}
-use Rattle.record_image.specs.Decode.{wordAt, wordsAt, pendingOf, phaseOf, partialOf, currentOf, registersOf, controlOf, decoded}
+use Rattle.record_image.specs.Decode.{imageWord, pendingOf, phaseOf, partialOf, currentOf, registersOf, controlOf, decoded}
 use Rattle.record_image.specs.Laws.KeptRecord.{PartialBytes, PhaseInRange, CurrentInRange, InRange, Lossless}
-use Rattle.record_image.specs.Inner.ImageStores.{words-length}
 use Rattle.record_image.specs.Laws.ImageRoundTrip.{decode-image, accepted-image, image-accepted}
 
 -- ---- numbers that are read from bytes
@@ -29,46 +29,40 @@ pending-small count number =
     (λ _. either PartialBytes (eqb count 2) (λ _. omega arith) (λ _. omega arith)))
 
 module _ (bytes : List ℕ) (small : AreBytes bytes) where
-  word-small : (k : ℕ) → wordAt bytes k < 2 ^ 32
-  unfolding wordAt
-  word-small k = omega (arith, byte-at bytes (4 * k) small, byte-at bytes (4 * k + 1) small, byte-at bytes (4 * k + 2) small, byte-at bytes (4 * k + 3) small)
+  image-word-small : (k : ℕ) → imageWord bytes k < 2 ^ 32
+  image-word-small k = word-small bytes (4 * k) small
 
-  words-small : (k n : ℕ) → AreWords (wordsAt bytes k n)
-  unfolding wordsAt
-  words-small k zero = tt
-  words-small k (suc n) = (word-small k, words-small (suc k) n)
-
-  phase-small : (number argument j k : ℕ) (window : PartialWord) → PartialBytes window → PhaseInRange (phaseOf number argument (wordAt bytes j) (wordAt bytes k) window)
+  phase-small : (number argument j k : ℕ) (window : PartialWord) → PartialBytes window → PhaseInRange (phaseOf number argument (imageWord bytes j) (imageWord bytes k) window)
   unfolding phaseOf
   phase-small number argument j k window h =
       either PhaseInRange (eqb number 0) (λ _. h)
       (λ _. either PhaseInRange (eqb number 1) (λ _. tt)
-      (λ _. either PhaseInRange (eqb number 2) (λ _. (word-small j, word-small k))
+      (λ _. either PhaseInRange (eqb number 2) (λ _. (image-word-small j, image-word-small k))
       (λ _. either PhaseInRange (eqb number 3) (λ _. tt) (λ _. tt))))
 
   partial-small : (number : ℕ) (b : PartialWord) → PartialBytes b → PartialBytes (partialOf number b)
   unfolding partialOf
   partial-small number b h = either PartialBytes (eqb number 0) (λ _. tt) (λ _. h)
 
-  current-small : (k : ℕ) → CurrentInRange (currentOf (wordAt bytes k))
+  current-small : (k : ℕ) → CurrentInRange (currentOf (imageWord bytes k))
   unfolding currentOf
-  current-small k = either CurrentInRange (eqb (wordAt bytes k) 0xFFFFFFFF) (λ _. tt) (λ _. word-small k)
+  current-small k = either CurrentInRange (eqb (imageWord bytes k) 0xFFFFFFFF) (λ _. tt) (λ _. image-word-small k)
 
   -- a record that is read from bytes is in range
   pub decoded-range : InRange (decoded bytes)
   unfolding decoded controlOf registersOf
   decoded-range =
-      let w = word-small in
+      let w = image-word-small in
       let z : 0 < 2 ^ 32 = omega arith in
-      let pending = pending-small (wordAt bytes 5) (wordAt bytes 6) in
+      let pending = pending-small (imageWord bytes 5) (imageWord bytes 6) in
       record {
-        phase = phase-small (wordAt bytes 1) (wordAt bytes 2) 3 4 _ pending;
+        phase = phase-small (imageWord bytes 1) (imageWord bytes 2) 3 4 _ pending;
         device = w 0;
         registers = (w 9, (w 10, (w 11, (z, (w 13, (w 14, (w 15, (z, (w 17, (w 18, (w 19, (w 20, (z, (z, (w 23, tt)))))))))))))));
         current = current-small 7;
-        partial = partial-small (wordAt bytes 1) _ pending;
-        frame = words-small 24 213;
-        length = words-length bytes 24 213;
+        partial = partial-small (imageWord bytes 1) _ pending;
+        frame = words-small 213 (drop 96 bytes) (bytes-drop 96 bytes small);
+        length = words-length 213 (drop 96 bytes);
       }
 
 -- ---- accepted images

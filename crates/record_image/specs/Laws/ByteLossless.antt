@@ -12,7 +12,8 @@ use borrow.Author.Tests.{ne-eqb, leb-true, ltb-true}
 use Rattle.crc16.specs.CrcRegister.{feed}
 use Rattle.crc16.specs.Laws.CrcBounds.{feed-lt}
 use Rattle.parts.specs.Laws.Cases.{either}
-use Rattle.parts.specs.Laws.WordBytes.{AreWords}
+use Rattle.words.specs.WordsInBytes.{wordOf}
+use Rattle.words.specs.Laws.ByteLists.{AreWords}
 use Rattle.parts.specs.Table.{idcodeAt, lengthAt, countAt}
 use Rattle.parts.specs.Laws.Figures.{length-fits, count-fits}
 use Rattle.registers.specs.RegisterAddresses.{addressOf, isFdri, isLout, registerAt}
@@ -22,7 +23,7 @@ use Rattle.config.specs.ControlState.{withPartial, stopped}
 use Rattle.config.specs.PacketHeaders.{ready, counted, begin, typeOneWrite, obeyed, packet}
 use Rattle.config.specs.Commands.{commandCrc, commandPhase, acted}
 use Rattle.config.specs.DataWords.{ended, onward, checked, crcWord, farWord, cmdWord, frameStored, fdriWord, mfwrStored, mfwrWord, idcodeWord, flrWord, dataWord, word}
-use Rattle.config.specs.StreamBytes.{isSync, hunted, gathered, wordOf, byte}
+use Rattle.config.specs.StreamBytes.{isSync, hunted, gathered, byte}
 use Rattle.record.specs.Consistency.{currentFits, dataFits, phaseFits, consistent}
 use Rattle.record.specs.Laws.StaysConsistent.{to-items, byte-consistent}
 use Rattle.record.specs.Laws.EventPlaces.{Asked, word-asked}
@@ -31,8 +32,6 @@ use Rattle.registers.specs.declared.RegisterAnswer.{RegisterAnswer}
 use Rattle.registers.specs.declared.RegisterAnswer.the-variants as RegisterAnswer
 use Rattle.registers.specs.declared.Register.{Register}
 use Rattle.registers.specs.declared.Register.the-variants as Register
-use Rattle.config.specs.declared.Open.{Open}
-use Rattle.config.specs.declared.Open.the-variants as Open
 use Rattle.config.specs.declared.PacketHeader.{PacketHeader}
 use Rattle.config.specs.declared.PacketHeader.the-variants as PacketHeader
 use Rattle.config.specs.declared.PartialWord.{PartialWord}

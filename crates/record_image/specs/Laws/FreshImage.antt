@@ -4,7 +4,7 @@ use mathlib.Core.Path.{refl}
 use Prim.Native.Nat.{ℕ, _^_, _<_}
 use native.Mathlib.Omega.{arith}
 use lib.ListN.{length-replicate}
-use Rattle.parts.specs.Laws.WordBytes.{zero-words}
+use Rattle.words.specs.Laws.ByteLists.{zero-words}
 use Rattle.record.specs.PowerOn.{freshControl, fresh}
 use Rattle.record_image.specs.Laws.KeptRecord.{Lossless}
 

@@ -19,7 +19,7 @@ use Rattle.config.specs.declared.Phase.{Phase}
 use Rattle.config.specs.declared.Phase.the-variants as Phase
 use Rattle.record.specs.declared.Record.{Record}
 use Rattle.record_image.specs.Image.{phaseNumber, argument, wordsLeft, wordsFilled, pending, bytesCount, bytesNumber, currentNumber, flagBit, flagBits, headWords}
-use Rattle.parts.specs.Laws.WordBytes.{AreWords}
+use Rattle.words.specs.Laws.ByteLists.{AreWords}
 use Rattle.record_image.specs.Laws.KeptRecord.{PartialBytes, PhaseInRange, CurrentInRange, InRange}
 
 -- 01: "stop number ... 1 to 10"

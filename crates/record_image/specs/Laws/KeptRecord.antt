@@ -5,7 +5,7 @@ use mathlib.Core.Path.{_≡_}
 use mathlib.Core.Bool.{cond}
 use lib.Dec.{eqb}
 use lib.ListN.{length as length·}
-use Rattle.parts.specs.Laws.WordBytes.{AreWords}
+use Rattle.words.specs.Laws.ByteLists.{AreWords}
 use Rattle.registers.specs.RegisterAddresses.{isFdri}
 use Rattle.config.specs.declared.PartialWord.{PartialWord}
 use Rattle.config.specs.declared.PartialWord.the-variants as PartialWord

@@ -4,7 +4,7 @@ use mathlib.Core.Path.{_≡_, _∙_, refl, sym, ap}
 use mathlib.Core.List.{List, _++_}
 use mathlib.Core.Bool.{Bool, true, false}
 use Prim.Native.Nat.{ℕ, _+_}
-use Rattle.parts.specs.Laws.WordBytes.{AreBytes}
+use Rattle.words.specs.Laws.ByteLists.{AreBytes}
 use Rattle.answers.specs.AnswerNumbers.{loadNumber}
 use Rattle.record.specs.PowerOn.{Outcome}
 use Rattle.loader.specs.Load.{load}

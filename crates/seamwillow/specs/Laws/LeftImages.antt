@@ -8,11 +8,11 @@ use native.Mathlib.Omega.{arith}
 use lib.Dec.{eqb}
 use lib.ListN.{length, replicate, set, length-replicate}
 use Rattle.parts.specs.Laws.Cases.{either}
-use Rattle.parts.specs.Laws.WordBytes.{AreWords, AreBytes, bytes-small}
+use Rattle.words.specs.Laws.ByteLists.{AreWords, AreBytes}
+use Rattle.words.specs.Laws.WordBytes.{bytes-small}
 use Rattle.parts.specs.Table.{partOf, memoryAt}
 use Rattle.parts.specs.declared.table.PartAnswer.{PartAnswer}
 use Rattle.parts.specs.declared.table.PartAnswer.the-variants as PartAnswer
-use Rattle.answers.specs.AnswerNumbers.{loadNumber}
 use Rattle.answers.specs.declared.Answer.{Answer}
 use Rattle.answers.specs.declared.Answer.the-variants as Answer
 use Rattle.config.specs.PhaseTests.{isHunting}

@@ -1,19 +1,19 @@
 -- The stream has the words of 01's formula.
 -- By the words of each packet, which the CRC does not change, and by induction over steps and targets.
 use mathlib.Core.Path.{_≡_, _∙_, refl, ap}
-use Prim.Native.Nat.{ℕ, zero, suc, _+_, _*_, _<_}
+use Prim.Native.Nat.{ℕ, _+_, _*_, _<_}
 use mathlib.Core.List.{List, [], _∷_, _++_}
 use mathlib.Core.Bool.{Bool}
 use native.Mathlib.Omega.{arith}
 use native.Mathlib.Nat.{suc-mul}
-use lib.ListN.{length, drop, length-append, length-replicate}
+use lib.ListN.{length, length-append, length-replicate}
 use Rattle.parts.specs.Table.{lengthAt}
-use Rattle.parts.specs.Laws.WordBytes.{bytes-length}
+use Rattle.words.specs.Laws.WordBytes.{bytes-length, words-length}
 use Rattle.layout.specs.Step.{Step, FrameWrite, MultiFrameWrite}
 use Rattle.layout.specs.Layout.{stepWordCount, stepsWordCount, streamWordCount}
 use Rattle.layout.specs.Laws.AcceptedSteps.{Fits, AllFit}
 use Rattle.stream.specs.StreamPackets.{Packet, crcOf, packetWords, packetsWords}
-use Rattle.stream.specs.Stream.{wordsFrom, framesWords, further, spreadPackets, stepPackets, stepsPackets, ending, streamPackets, wordsOf, stream}
+use Rattle.stream.specs.Stream.{framesWords, further, spreadPackets, stepPackets, stepsPackets, ending, streamPackets, wordsOf, stream}
 
 -- the words of a packet and of packets, whatever the CRC
 unfoldable pub size : Packet → ℕ
@@ -46,11 +46,6 @@ sizes-append [] qs = omega arith
 sizes-append (p ∷ ps) qs = omega (arith, sizes-append ps qs)
 
 -- ---- frames
-
-pub words-length : (k : ℕ) (xs : List ℕ) → length (wordsFrom k xs) ≡ k
-unfolding wordsFrom
-words-length zero xs = refl
-words-length (suc k) xs = omega (arith, words-length k (drop 4 xs))
 
 pub frames-words : (l : ℕ) (fs : List (List ℕ)) → length (framesWords l fs) ≡ length fs * l
 unfolding framesWords

@@ -9,7 +9,7 @@ use Rattle.parts.specs.Table.{idcodeAt, lengthAt}
 use Rattle.parts.specs.Laws.Figures.{figures}
 use Rattle.stream.specs.Stream.{heading}
 use Rattle.stream.specs.Laws.StreamLength.{size}
-use Rattle.compiler.specs.Inner.Emitted.{put-append}
+use Rattle.words.specs.Laws.WordStores.{put-append}
 use Rattle.compiler.specs.Inner.PacketWriting.{cursorAt, Written, written-length, joined, once}
 use Rattle.compiler.specs.Inner.WholeStream.{synced, synced-length}
 use Rattle.compiler.proofs.emit.put_heading.Statement.{statement}

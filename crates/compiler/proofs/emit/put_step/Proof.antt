@@ -13,7 +13,8 @@ use Rattle.parts.specs.Laws.Figures.{length-fits}
 use Rattle.layout.specs.Inner.TargetNumbers.{numbersAt}
 use Rattle.layout.specs.Inner.FirstStep.{StepBytes}
 use Rattle.stream.specs.StreamPackets.{Packet}
-use Rattle.stream.specs.Stream.{wordsFrom, toFrame, spreadPackets}
+use Rattle.words.specs.WordsInBytes.{wordsFrom}
+use Rattle.stream.specs.Stream.{toFrame, spreadPackets}
 use Rattle.stream.specs.Laws.StreamLength.{size}
 use Rattle.compiler.specs.Inner.PacketWriting.{Room, first-room, Written, joined, joined-room, next-room, nothing, once, frames-size, frames-once}
 use Rattle.compiler.specs.Inner.StepPackets.{StepCount, write-packets, multi-packets, no-packets, few-words}

@@ -6,8 +6,6 @@ use native.Mathlib.Omega.{arith}
 use lib.ListN.{length}
 use borrow.Author.Needs.{needs}
 use denote.Ref.{now}
-use Rattle.parts.specs.Table.{lengthAt, countAt}
-use Rattle.layout.specs.Ownership.{owns}
 use Rattle.layout.specs.Step.{Step, listed}
 use Rattle.layout.specs.Layout.{deskLayout}
 use Rattle.stream.specs.Stream.{stepsPackets, ending, streamPackets, stream}

@@ -3,10 +3,12 @@
 use mathlib.Core.Path.{_≡_, _∙_, refl, ap}
 use Prim.Native.Nat.{ℕ, suc, _+_, _-_, _*_, _≤_}
 use native.Mathlib.Omega.{arith}
+use borrow.Author.Needs.{needs}
 use denote.Ref.{now}
 use lib.ListN.{length, drop}
-use Rattle.stream.specs.Stream.{wordsFrom}
-use Rattle.compiler.specs.Inner.FrameDataWords.{words-next, Left, left-all, left-next, left-none}
+use Rattle.words.specs.WordsInBytes.{wordsFrom}
+use Rattle.words.specs.Laws.WordReads.{words-next}
+use Rattle.compiler.specs.Inner.FrameDataWords.{Left, left-all, left-next, left-none}
 use Rattle.compiler.proofs.frames.put_data.Statement.{statement}
 use Rattle.compiler.proofs.frames.put_data.Tie as tie
 
@@ -23,7 +25,7 @@ loop-holds : tie.Need-loop-holds Inv-loop μ-loop
 loop-holds c = (c .before .before .pre .2, refl, left-all _ _ _)
 
 word-at-requires : tie.Need-word-at-requires Inv-loop μ-loop
-word-at-requires c κs = omega arith
+word-at-requires c κs = search needs
 
 put-fed-requires : tie.Need-put-fed-requires Inv-loop μ-loop
 put-fed-requires c κs =
@@ -47,7 +49,7 @@ loop-again c =
     let fed = c .before .before .put-fed .ensures in
     let word = c .before .before .before .before .word-at .ensures in
     let e : l .left ≡ suc (l .left - 1) = omega arith in
-    let next = ap (λ (k : ℕ). wordsFrom k (drop (l .i) s)) e ∙ words-next (l .left - 1) (l .i) s in
+    let next = ap (λ (k : ℕ). wordsFrom k (drop (l .i) s)) e ∙ words-next s (l .i) (l .left - 1) in
     (omega arith, omega (arith, fed .0), left-next (l .inv .2) next (fed .0) (rw word at (fed .1 .0)) (rw word at (fed .1 .1)))
 
 same-length : tie.Need-same-length Inv-loop μ-loop

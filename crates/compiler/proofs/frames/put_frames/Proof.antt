@@ -10,10 +10,11 @@ use Rattle.crc16.specs.CrcRegister.{fedWords, checkWord}
 use Rattle.crc16.specs.Laws.FedWords.{fed-append}
 use Rattle.registers.specs.RegisterAddresses.{addressOf}
 use Rattle.stream.specs.StreamPackets.{crcOf, packetWords}
-use Rattle.stream.specs.Stream.{wordsFrom}
-use Rattle.stream.specs.Laws.StreamLength.{words-length}
+use Rattle.words.specs.WordsInBytes.{wordsFrom}
+use Rattle.words.specs.Laws.WordStores.{put-then}
+use Rattle.words.specs.Laws.WordBytes.{words-length}
 use Rattle.stream.specs.Laws.PacketsJoined.{crcAfter}
-use Rattle.compiler.specs.Inner.Emitted.{put-then, words-one}
+use Rattle.compiler.specs.Inner.Emitted.{words-one}
 use borrow.Author.Needs.{needs}
 use Rattle.compiler.proofs.frames.put_frames.Statement.{statement}
 use Rattle.compiler.proofs.frames.put_frames.Tie as tie

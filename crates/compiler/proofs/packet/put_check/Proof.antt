@@ -7,7 +7,7 @@ use Rattle.crc16.specs.CrcRegister.{checkWord}
 use Rattle.registers.specs.RegisterAddresses.{addressOf}
 use Rattle.stream.specs.StreamPackets.{crcOf, packetWords, packetsWords}
 use Rattle.stream.specs.Laws.PacketsJoined.{crcAfter}
-use Rattle.compiler.specs.Inner.Emitted.{put-append}
+use Rattle.words.specs.Laws.WordStores.{put-append}
 use borrow.Author.Needs.{needs}
 use Rattle.compiler.proofs.packet.put_check.Statement.{statement}
 use Rattle.compiler.proofs.packet.put_check.Tie as tie

@@ -1,11 +1,10 @@
--- `compiler::packet::put_word` meets its contract: four stores in a row are the run of stores of the word's bytes.
--- By computation, with the places counted by one; a word of 32 bits has no byte above its high one.
-use mathlib.Core.Path.{_≡_}
-use Prim.Native.Nat.{suc, _+_}
+-- `compiler::packet::put_word` meets its contract: four stores in a row are the word's.
+-- By the law of the four stores; a word of 32 bits has no byte above its high one.
 use native.Mathlib.Omega.{arith}
+use denote.Ref.{now}
 use lib.ListN.{length-set}
 use lib.Pow.{shr-mod}
-use Rattle.parts.specs.FrameMemory.{bytesOf}
+use Rattle.words.specs.Laws.WordStores.{put-bytes}
 use borrow.Author.Needs.{needs}
 use Rattle.compiler.proofs.packet.put_word.Statement.{statement}
 use Rattle.compiler.proofs.packet.put_word.Tie as tie
@@ -47,13 +46,7 @@ same-length : tie.Need-same-length
 same-length c = search needs
 
 returns : tie.Need-returns
-unfolding bytesOf
-returns c =
-    let a = c .args .at in
-    let e1 : a + 1 ≡ suc a = omega arith in
-    let e2 : a + 2 ≡ suc (suc a) = omega arith in
-    let e3 : a + 3 ≡ suc (suc (suc a)) = omega arith in
-    rw (e1, e2, e3, shr-mod 8 24 (c .fits .word .fits))
+returns c = rw (← shr-mod 8 24 (c .fits .word .fits)) (put-bytes (now (c .args .output)) (c .args .at) (c .args .word))
 
 pub put-word-spec : {M : Type 1} → statement M
 put-word-spec =

@@ -8,7 +8,7 @@ use denote.Ref.{now}
 use Rattle.stream.specs.StreamPackets.{header1, crcOf, packetWords, packetsWords}
 use Rattle.registers.specs.Laws.AddressLookup.{address-bound}
 use Rattle.stream.specs.Laws.PacketsJoined.{crcAfter}
-use Rattle.compiler.specs.Inner.Emitted.{put-append}
+use Rattle.words.specs.Laws.WordStores.{put-append}
 use borrow.Author.Needs.{needs}
 use Rattle.compiler.proofs.packet.put_write.Statement.{statement}
 use Rattle.compiler.proofs.packet.put_write.Tie as tie

@@ -9,27 +9,28 @@ use borrow.Author.Needs.{needs}
 use denote.Ref.{now}
 use Rattle.crc16.specs.CrcRegister.{fedWords}
 use Rattle.crc16.specs.Laws.NibbleLookup.{feed-with-entries}
-use Rattle.loader.specs.Inner.FillWords.{wordAt, wordsAt, lastOf, keptAll}
+use Rattle.words.specs.WordsInBytes.{wordAt, wordsFrom, wordsAt}
+use Rattle.words.specs.Laws.WordReads.{words-next}
+use Rattle.loader.specs.Inner.FillWords.{lastOf, keptAll}
 use Rattle.loader.proofs.fill.fill.Statement.{statement}
 use Rattle.loader.proofs.fill.fill.Tie as tie
 
 abbrev Inv-loop : tie.InvT-loop
 Inv-loop frame₀ at crc last bytes from n table register₀ word₀ k₀ frame register word k =
     (k ≤ n)
-    × (fedWords register 2 (wordsAt (n - k) bytes (from + 4 * k)) ≡ fedWords crc 2 (wordsAt n bytes from))
-    × (lastOf (wordsAt (n - k) bytes (from + 4 * k)) word ≡ lastOf (wordsAt n bytes from) last)
-    × (keptAll (wordsAt (n - k) bytes (from + 4 * k)) (at + k) frame ≡ keptAll (wordsAt n bytes from) at frame₀)
+    × (fedWords register 2 (wordsAt bytes (from + 4 * k) (n - k)) ≡ fedWords crc 2 (wordsAt bytes from n))
+    × (lastOf (wordsAt bytes (from + 4 * k) (n - k)) word ≡ lastOf (wordsAt bytes from n) last)
+    × (keptAll (wordsAt bytes (from + 4 * k) (n - k)) (at + k) frame ≡ keptAll (wordsAt bytes from n) at frame₀)
 
 abbrev μ-loop : tie.MeasureT-loop
 μ-loop frame₀ at crc last bytes from n table register₀ word₀ k₀ frame register word k = n - k
 
 -- the first of the words that are left
-next : (n k : ℕ) (s : List ℕ) (from : ℕ) → k < n → wordsAt (n - k) s (from + 4 * k) ≡ wordAt s (from + 4 * k) ∷ wordsAt (n - (k + 1)) s (from + 4 * (k + 1))
-unfolding wordsAt
+next : (n k : ℕ) (s : List ℕ) (from : ℕ) → k < n → wordsAt s (from + 4 * k) (n - k) ≡ wordAt s (from + 4 * k) ∷ wordsAt s (from + 4 * (k + 1)) (n - (k + 1))
 next n k s from h =
     let e₁ : n - k ≡ suc (n - (k + 1)) = omega arith in
-    let e₂ : from + 4 * k + 4 ≡ from + 4 * (k + 1) = omega arith in
-    rw (e₁, e₂)
+    let e₂ : from + 4 * (k + 1) ≡ from + 4 * k + 4 = omega arith in
+    rw (e₁, e₂) (words-next s (from + 4 * k) (n - (k + 1)))
 
 table-requires : tie.Need-table-requires Inv-loop μ-loop
 table-requires c κs = search needs
@@ -44,7 +45,7 @@ add-word-at : tie.Need-add-word-at Inv-loop μ-loop
 add-word-at c = omega arith
 
 word-at-requires : tie.Need-word-at-requires Inv-loop μ-loop
-word-at-requires c κs = omega arith
+word-at-requires c κs = search needs
 
 feed-with-requires : tie.Need-feed-with-requires Inv-loop μ-loop
 feed-with-requires c κs = search needs
@@ -79,7 +80,7 @@ loop-again c =
     )
 
 returns : tie.Need-returns Inv-loop μ-loop
-unfolding wordsAt fedWords lastOf keptAll
+unfolding wordsFrom fedWords lastOf keptAll
 returns c =
     let a = c .before .before .before .before .args in
     let l = c .before .loop in

@@ -1,16 +1,17 @@
--- `loader::store::store_within` meets its contract. Where the frame fits, the bytes set one by one are the frame stored.
+-- `loader::store::store_within` meets its contract. Where the frame fits, the words written are the frame stored.
 -- Its place is at most 852 * 2 ^ 32, so that no product wraps.
-use mathlib.Core.Path.{_∙_}
+use mathlib.Core.Path.{_∙_, sym}
 use Prim.Native.Nat.{_+_, _*_, _≤_}
 use native.Mathlib.Nat.{mul-le-mul}
 use native.Mathlib.Omega.{arith}
 use lib.ListN.{length}
+use lib.Seq.{length-take-le}
 use borrow.Author.Needs.{needs}
 use borrow.Author.Tests.{le-leb, lt-leb}
 use denote.Ref.{now}
 use Rattle.loader.specs.EventEffects.{storeWithin}
 use Rattle.parts.specs.Laws.FramePlacing.{placed-sets}
-use Rattle.loader.specs.Inner.FrameStore.{frame-size}
+use Rattle.words.specs.Laws.WordBytes.{first-bytes}
 use Rattle.loader.proofs.store.store_within.Statement.{statement}
 use Rattle.loader.proofs.store.store_within.Tie as tie
 
@@ -30,8 +31,13 @@ add-if1 c = omega (arith, frame-small c)
 full-requires : tie.Need-full-requires
 full-requires c κs = search needs
 
-write-words-requires : tie.Need-write-words-requires
-write-words-requires c κs = search needs
+slice-aggregate-put-words : tie.Need-slice-aggregate-put-words
+slice-aggregate-put-words c =
+    let a = c .before .before .before .before .before .before .args in
+    sym (length-take-le (a .words) (now (a .frame)) (omega (arith, c .before .before .before .full .ensures)))
+
+put-words-requires : tie.Need-put-words-requires
+put-words-requires c κs = search needs
 
 same-length : tie.Need-same-length
 same-length c = search needs
@@ -39,10 +45,11 @@ same-length c = search needs
 returns : tie.Need-returns
 unfolding storeWithin
 returns c =
-    let a = c .before .before .before .before .before .before .before .args in
-    let fits = c .before .before .before .before .before .if1 .taken in
+    let full = c .before .before .before .before .before .before in
+    let fits = full .before .if1 .taken in
+    let a = full .before .before .before .args in
     rw (le-leb (4 * a .words * a .n + 4 * a .words) (length (now (a .memory))) fits)
-    (c .before .before .write-words .ensures ∙ placed-sets (a .words) (a .n) _ (now (a .memory)) fits (frame-size (a .words) (now (a .frame)) (omega (arith, c .before .before .before .before .full .ensures))))
+    (c .before .before .put-words .ensures ∙ placed-sets (a .words) (a .n) _ (now (a .memory)) fits (first-bytes (a .words) (now (a .frame)) (omega (arith, full .full .ensures))))
 
 returns-2 : tie.Need-returns-2
 unfolding storeWithin
@@ -52,4 +59,4 @@ returns-2 c =
 
 pub store-within-spec : {M : Type 1} → statement M
 store-within-spec =
-    tie.close (tie.spec mul-size mul-at add-if1 full-requires write-words-requires same-length returns returns-2)
+    tie.close (tie.spec mul-size mul-at add-if1 full-requires slice-aggregate-put-words put-words-requires same-length returns returns-2)

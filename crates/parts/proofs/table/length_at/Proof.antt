@@ -1,6 +1,6 @@
 -- `parts::table::length_at` meets its contract: the figure of the part that the table has.
 -- By the law of a figure in each of the two cases.
-use mathlib.Core.Path.{_∙_, sym, ap}
+use mathlib.Core.Path.{_∙_, sym}
 use Rattle.parts.specs.Table.{frameLength}
 use Rattle.parts.specs.Laws.KnownParts.{figure-known, figure-unknown}
 use Rattle.parts.specs.Laws.PrintedFigures.{known-limits}

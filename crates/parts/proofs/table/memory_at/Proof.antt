@@ -1,6 +1,6 @@
 -- `parts::table::memory_at` meets its contract: the figure of the part that the table has.
 -- By the law of a figure in each of the two cases; the product fits, since the table's limits bound it.
-use mathlib.Core.Path.{_∙_, sym, ap}
+use mathlib.Core.Path.{_∙_, sym}
 use native.Mathlib.Omega.{arith}
 use borrow.Author.Needs.{needs}
 use Rattle.parts.specs.Table.{memoryLength}

@@ -5,20 +5,20 @@ use borrow.Author.Needs.{needs}
 use Rattle.record_image.proofs.decode.control_of.Statement.{statement}
 use Rattle.record_image.proofs.decode.control_of.Tie as tie
 
-word-at-requires : tie.Need-word-at-requires
-word-at-requires c κs = search needs
+image-word-requires : tie.Need-image-word-requires
+image-word-requires c κs = search needs
 
 registers-of-requires : tie.Need-registers-of-requires
 registers-of-requires c κs = search needs
 
-word-at-requires-2 : tie.Need-word-at-requires-2
-word-at-requires-2 c κs = search needs
+image-word-requires-2 : tie.Need-image-word-requires-2
+image-word-requires-2 c κs = search needs
 
 flags-of-requires : tie.Need-flags-of-requires
 flags-of-requires c κs = search needs
 
-word-at-requires-3 : tie.Need-word-at-requires-3
-word-at-requires-3 c κs = search needs
+image-word-requires-3 : tie.Need-image-word-requires-3
+image-word-requires-3 c κs = search needs
 
 current-of-requires : tie.Need-current-of-requires
 current-of-requires c κs = search needs
@@ -31,10 +31,10 @@ pub control-of-spec : {M : Type 1} → statement M
 control-of-spec =
     tie.close
     (tie.spec
-    word-at-requires
+    image-word-requires
     registers-of-requires
-    word-at-requires-2
+    image-word-requires-2
     flags-of-requires
-    word-at-requires-3
+    image-word-requires-3
     current-of-requires
     returns)

@@ -5,26 +5,26 @@ use borrow.Author.Needs.{needs}
 use Rattle.record_image.proofs.decode.decode.Statement.{statement}
 use Rattle.record_image.proofs.decode.decode.Tie as tie
 
-word-at-requires : tie.Need-word-at-requires
-word-at-requires c κs = search needs
+image-word-requires : tie.Need-image-word-requires
+image-word-requires c κs = search needs
 
-word-at-requires-2 : tie.Need-word-at-requires-2
-word-at-requires-2 c κs = search needs
+image-word-requires-2 : tie.Need-image-word-requires-2
+image-word-requires-2 c κs = search needs
 
-word-at-requires-3 : tie.Need-word-at-requires-3
-word-at-requires-3 c κs = search needs
+image-word-requires-3 : tie.Need-image-word-requires-3
+image-word-requires-3 c κs = search needs
 
 pending-of-requires : tie.Need-pending-of-requires
 pending-of-requires c κs = search needs
 
-word-at-requires-4 : tie.Need-word-at-requires-4
-word-at-requires-4 c κs = search needs
+image-word-requires-4 : tie.Need-image-word-requires-4
+image-word-requires-4 c κs = search needs
 
-word-at-requires-5 : tie.Need-word-at-requires-5
-word-at-requires-5 c κs = search needs
+image-word-requires-5 : tie.Need-image-word-requires-5
+image-word-requires-5 c κs = search needs
 
-word-at-requires-6 : tie.Need-word-at-requires-6
-word-at-requires-6 c κs = search needs
+image-word-requires-6 : tie.Need-image-word-requires-6
+image-word-requires-6 c κs = search needs
 
 phase-of-requires : tie.Need-phase-of-requires
 phase-of-requires c κs = search needs
@@ -48,26 +48,26 @@ returns c =
       c .before .control-of .ensures,
       c .before .before .partial-of .ensures,
       p .phase-of .ensures,
-      p .before .word-at6 .ensures,
-      p .before .before .word-at5 .ensures,
-      p .before .before .before .word-at4 .ensures,
+      p .before .image-word6 .ensures,
+      p .before .before .image-word5 .ensures,
+      p .before .before .before .image-word4 .ensures,
       w .pending-of .ensures,
-      w .before .word-at3 .ensures,
-      w .before .before .word-at2 .ensures,
-      w .before .before .before .word-at .ensures,
+      w .before .image-word3 .ensures,
+      w .before .before .image-word2 .ensures,
+      w .before .before .before .image-word .ensures,
     )
 
 pub decode-spec : {M : Type 1} → statement M
 decode-spec =
     tie.close
     (tie.spec
-    word-at-requires
-    word-at-requires-2
-    word-at-requires-3
+    image-word-requires
+    image-word-requires-2
+    image-word-requires-3
     pending-of-requires
-    word-at-requires-4
-    word-at-requires-5
-    word-at-requires-6
+    image-word-requires-4
+    image-word-requires-5
+    image-word-requires-6
     phase-of-requires
     partial-of-requires
     control-of-requires

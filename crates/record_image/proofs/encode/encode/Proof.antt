@@ -5,7 +5,7 @@ use denote.Ref.{now}
 use lib.ListN.{length}
 use borrow.Author.Tests.{eq-eqb, ne-eqb}
 use Rattle.record_image.specs.Image.{encoded}
-use Rattle.record_image.specs.Inner.ImageStores.{sets-image}
+use Rattle.record_image.specs.Inner.ImageStores.{image-put}
 use borrow.Author.Needs.{needs}
 use native.Mathlib.Omega.{arith}
 use Rattle.record_image.proofs.encode.encode.Statement.{statement}
@@ -44,7 +44,7 @@ returns-2 c =
     let first = c .before .before .before .before .before .before .before .before in
     let made = first .before .before .before in
     let e = made .before .before .if1 .left in
-    rw (eq-eqb _ _ e, c .before .before .put-words2 .ensures, first .put-words .ensures, made .head .ensures) (sets-image (a .«record») (now (a .image)) h e)
+    rw (eq-eqb _ _ e, c .before .before .put-words2 .ensures, first .put-words .ensures, made .head .ensures) (image-put (a .«record») (now (a .image)) h e)
 
 pub encode-spec : {M : Type 1} → statement M
 encode-spec =

@@ -5,7 +5,7 @@ use denote.Ref.{now}
 use lib.ListN.{length}
 use borrow.Author.Tests.{eq-eqb, ne-eqb, not-true, not-false}
 use Rattle.record_image.specs.Compare.{isImage}
-use Rattle.record_image.specs.Inner.ImageStores.{starts-image}
+use Rattle.record_image.specs.Inner.ImageStores.{image-has}
 use borrow.Author.Needs.{needs}
 use native.Mathlib.Omega.{arith}
 use Rattle.record_image.proofs.encode.matches.Statement.{statement}
@@ -30,7 +30,7 @@ returns-2 c =
     let made = c .before .before .before in
     let a = made .before .before .before .before .args in
     let e = rw (made .head .ensures) at (c .before .has-words .ensures) in
-    rw (eq-eqb _ _ (made .before .before .if1 .left), starts-image (a .«record») (now (a .image)), ← e, not-true (c .before .has-words .result) (c .if2 .taken))
+    rw (eq-eqb _ _ (made .before .before .if1 .left), image-has (a .«record») (now (a .image)), ← e, not-true (c .before .has-words .result) (c .if2 .taken))
 
 slice-aggregate-has-words-2 : tie.Need-slice-aggregate-has-words-2
 slice-aggregate-has-words-2 c = search needs
@@ -48,7 +48,7 @@ returns-3 c =
     let made = first .before .before in
     let a = made .before .before .before .before .args in
     let e = rw (made .head .ensures) at (first .has-words .ensures) in
-    rw (eq-eqb _ _ (made .before .before .if1 .left), starts-image (a .«record») (now (a .image)), ← e, not-false (first .has-words .result) (c .before .before .before .if2 .left))
+    rw (eq-eqb _ _ (made .before .before .if1 .left), image-has (a .«record») (now (a .image)), ← e, not-false (first .has-words .result) (c .before .before .before .if2 .left))
     (c .has-words2 .ensures)
 
 pub matches-spec : {M : Type 1} → statement M

@@ -1,6 +1,6 @@
 -- `reference::steps::apply_list` meets its contract: the steps that the layout lists are those of the layout.
 -- From the law on the list of steps of an accepted layout.
-use mathlib.Core.Path.{_∙_, ap}
+use mathlib.Core.Path.{_∙_}
 use borrow.Author.Needs.{needs}
 use denote.Ref.{now}
 use Rattle.layout.specs.Laws.AcceptedLayout.{steps-listed, machine-read}
