@@ -4,7 +4,6 @@ use crate::STREAM;
 use answers::Answer;
 use answers::Refusal;
 use answers::answer_number;
-use answers::answer_value;
 use libc::STDERR_FILENO;
 
 pub(crate) fn text(s: &[u8]) {
@@ -56,21 +55,25 @@ fn meaning(refusal: Refusal) {
     }
 }
 
+fn place(refusal: Refusal) {
+    match refusal {
+        Refusal::ShortOutput => text(b", length needed "),
+        _ => text(b" at offset "),
+    }
+}
+
 // A refusal's number, its offset in the layout or the length that the stream needs, and what it means.
 pub(crate) fn refusal(answer: Answer) {
-    let code = answer_number(answer);
     text(b"build: ");
-    number(code as u64);
-    if code == 36 {
-        text(b", length needed ");
-    } else {
-        text(b" at offset ");
-    }
-    number(answer_value(answer));
-    text(b": ");
+    number(answer_number(answer) as u64);
     match answer {
-        Answer::Done(_) => text(b"accepted"),
-        Answer::Refused { refusal, told: _ } => meaning(refusal),
+        Answer::Done(_) => text(b": accepted"),
+        Answer::Refused { refusal, told } => {
+            place(refusal);
+            number(told);
+            text(b": ");
+            meaning(refusal);
+        }
     }
     text(b"\n");
 }

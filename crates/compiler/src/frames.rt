@@ -7,11 +7,11 @@ use words::word_at;
 ghost use mathlib.Core.Path.{_≡_};
 ghost use mathlib.Core.List.{[], _∷_, _++_};
 ghost use Prim.Native.Nat.{ℕ, _+_, _*_, _≤_, _<_};
-ghost use lib.ListN.{length, drop, replicate};
+ghost use lib.ListN.{length, replicate};
 ghost use Rattle.crc16.specs.CrcRegister.{fedWords};
 ghost use Rattle.crc16.specs.NibbleTable.{entries};
 ghost use Rattle.stream.specs.StreamPackets.{Packet};
-ghost use Rattle.words.specs.WordsInBytes.{wordsFrom, putWords};
+ghost use Rattle.words.specs.WordsInBytes.{wordsAt, putWords};
 ghost use Rattle.stream.specs.Laws.PacketsJoined.{crcAfter};
 ghost use Rattle.compiler.specs.Inner.Emitted.{emitted};
 
@@ -26,8 +26,8 @@ fn put_data(
 ) -> Cursor
     requires { ⌜ (now table ≡ entries 256 0) × (cursor .at + 4 * n ≤ length (now output)) × (from + 4 * n ≤ length (now layout)) ⌝ }
     ensures { λ r. ⌜ r .at ≡ cursor .at + 4 * n ⌝ }
-    ensures { λ r. ⌜ r .crc ≡ fedWords (cursor .crc) 2 (wordsFrom n (drop from (now (layout .entry)))) ⌝ }
-    ensures { λ _. ⌜ now (output .exit) ≡ putWords (now (output .entry)) (cursor .at) (wordsFrom n (drop from (now (layout .entry)))) ⌝ }
+    ensures { λ r. ⌜ r .crc ≡ fedWords (cursor .crc) 2 (wordsAt (now (layout .entry)) from n) ⌝ }
+    ensures { λ _. ⌜ now (output .exit) ≡ putWords (now (output .entry)) (cursor .at) (wordsAt (now (layout .entry)) from n) ⌝ }
 {
     let mut here = cursor;
     let mut i = from;
@@ -69,8 +69,8 @@ pub(crate) fn put_frames(
 ) -> Cursor
     requires { ⌜ (now table ≡ entries 256 0) × (n + zeros < 134217728) × (cursor .at + 4 * (3 + n + zeros) ≤ length (now output)) × (from + 4 * n ≤ length (now layout)) ⌝ }
     ensures { λ r. ⌜ r .at ≡ cursor .at + 4 * (3 + n + zeros) ⌝ }
-    ensures { λ r. ⌜ r .crc ≡ crcAfter (cursor .crc) (Packet.FrameData (wordsFrom n (drop from (now (layout .entry))) ++ replicate {A = ℕ} zeros 0) ∷ []) ⌝ }
-    ensures { λ _. ⌜ now (output .exit) ≡ emitted (now (output .entry)) (cursor .at) (cursor .crc) (Packet.FrameData (wordsFrom n (drop from (now (layout .entry))) ++ replicate {A = ℕ} zeros 0) ∷ []) ⌝ }
+    ensures { λ r. ⌜ r .crc ≡ crcAfter (cursor .crc) (Packet.FrameData (wordsAt (now (layout .entry)) from n ++ replicate {A = ℕ} zeros 0) ∷ []) ⌝ }
+    ensures { λ _. ⌜ now (output .exit) ≡ emitted (now (output .entry)) (cursor .at) (cursor .crc) (Packet.FrameData (wordsAt (now (layout .entry)) from n ++ replicate {A = ℕ} zeros 0) ∷ []) ⌝ }
 {
     put_word(output, cursor.at, 0x30004000);
     put_word(output, cursor.at + 4, 0x50000000 + (n + zeros) as u32);

@@ -20,7 +20,7 @@ pub struct Cursor {
     pub crc: u32,
 }
 
-// Writes a word that has room, high byte first. That of `words` tests its offset, which costs a stream of many targets a sixth.
+// Writes a word that has room, high byte first. One that tests for room was slower (docs/DECISIONS.md, "Words in bytes").
 pub(crate) fn put_word(output: &mut [u8], at: usize, word: u32)
     requires { ⌜ at + 4 ≤ length (now output) ⌝ }
     ensures { λ _. ⌜ now (output .exit) ≡ putWords (now (output .entry)) at (word ∷ []) ⌝ }

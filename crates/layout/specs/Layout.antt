@@ -60,7 +60,7 @@ abbrev pub deskLayoutAt : ℕ → FrameRange → List ℕ → ℕ → Reading (L
 deskLayoutAt d r b at = forDesk layoutAt d r b d at
 
 abbrev pub deskLayout : ℕ → FrameRange → List ℕ → Reading (List Step)
-deskLayout d r b = deskLayoutAt d r b 0
+deskLayout d r b = forDesk layoutRead d r b d
 
 -- how many steps an accepted layout has, and the offset at which they begin: its step count is its third number, after an edition and a
 -- device of one byte each. None where no number stands there

@@ -16,7 +16,7 @@ pub struct FrameRange {
     pub count: u32,
 }
 
-// Checks a layout: 21, 37, then the layout front to back. Accepted: with the length of its stream in bytes.
+// Checks a layout: 21, 37, then the layout front to back. Done: with the length of its stream in bytes.
 pub fn check(device: u32, range: FrameRange, layout: &[u8]) -> Answer
     ensures { λ r. ⌜ r ≡ check device range (now (layout .entry)) ⌝ }
 {

@@ -72,7 +72,7 @@ numberFor (PartAnswer.Refused c) a = NumberAnswer.Refused c
 abbrev pub frameNumber : ℕ → ℕ → NumberAnswer
 frameNumber d a = numberFor (partOf d) a
 
--- the number of an answer, 0 where nothing is refused: none is an answer
+-- the number of an answer, 0 where nothing is refused: no frame is an answer too
 abbrev pub numberRefusal : NumberAnswer → ℕ
 numberRefusal (NumberAnswer.Number n) = 0
 numberRefusal NumberAnswer.NoFrame = 0

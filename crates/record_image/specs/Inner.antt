@@ -1,1 +1,1 @@
-pub mod ImageStores  -- runs of stores and of comparisons
+pub mod ImageStores  -- the image stored and compared, head and frame

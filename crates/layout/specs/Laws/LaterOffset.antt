@@ -1,7 +1,7 @@
 -- A layout at an offset is the layout of the bytes from there on, with that offset added to the one that is told; so is its check.
 -- Each definition of the reader gives, m bytes later, what it gives there with m added to every offset; by its cases, and by induction.
-use mathlib.Core.Path.{_≡_, refl, sym, ap}
-use Prim.Native.Nat.{ℕ, zero, suc, _+_, _-_}
+use mathlib.Core.Path.{_≡_, _∙_, refl, sym, ap}
+use Prim.Native.Nat.{ℕ, zero, suc, _+_, _-_, _≤_, _<_}
 use native.Mathlib.Nat.{zero-add, add-zero, suc-add, add-assoc}
 use native.Mathlib.Decide.{decLe}
 use native.Mathlib.Omega.{arith}
@@ -10,14 +10,19 @@ use mathlib.Core.Bool.{Bool, true, false, cond}
 use lib.Dec.{ltb, leb·suc-suc}
 use lib.ListN.{length, drop, length-drop, drop-of-length-le}
 use lib.Seq.{drop-drop}
-use Rattle.parts.specs.Table.{partOf}
+use Rattle.parts.specs.Table.{partOf, lengthAt, countAt}
+use Rattle.parts.specs.declared.table.Part.{Part}
+use Rattle.parts.specs.declared.table.PartAnswer.the-variants as PartAnswer
+use Rattle.answers.specs.declared.Answer.{Answer}
+use Rattle.answers.specs.declared.Answer.the-variants as Answer
 use Rattle.answers.specs.declared.Refusal.{Refusal}
 use Rattle.numbers.specs.Number.{lastGroup, lowGroup, groups, numberAt}
 use Rattle.numbers.specs.declared.Number.{Number}
 use Rattle.numbers.specs.declared.Number.the-variants as Number
 use Rattle.layout.specs.Step.{Step, Reading, before, listed}
 use Rattle.layout.specs.StepReading.{judgedTarget, andTarget, targetsAt, judgedWrite, writeCount, writeFirst, targetsRead, judgedMulti, multiCount, stepKind, stepAt, andStep, stepsAt}
-use Rattle.layout.specs.Layout.{endRead, countRead, deviceRead, editionRead, layoutAt, deskLayoutAt, deskLayout, checkFor, checkAt}
+use Rattle.layout.specs.Layout.{endRead, countRead, deviceRead, editionRead, layoutAt, deskLayoutAt, deskLayout, checkAnswer, checkAt, check}
+use Rattle.layout.specs.Inner.CheckLoops.{check-no-part, check-wrong-range, check-layout}
 use Rattle.layout.specs.declared.FrameRange.{FrameRange}
 use Rattle.layout.specs.declared.step.StepAt.{StepAt}
 use Rattle.layout.specs.declared.step.StepAt.the-variants as StepAt
@@ -135,6 +140,28 @@ layout-from l f own b d at =
 pub desk-from : (d : ℕ) (r : FrameRange) (b : List ℕ) (at : ℕ) → deskLayoutAt d r b at ≡ laterReading at (deskLayout d r (drop at b))
 desk-from d r b at = layout-from _ _ _ b d at
 
--- and so a check at an offset is the check of what is read there; 21 and 37 tell 0 at any offset
-pub check-from : (d : ℕ) (r : FrameRange) (b : List ℕ) (at : ℕ) → checkAt d r b at ≡ checkFor (partOf d) d r (laterReading at (deskLayout d r (drop at b)))
-check-from d r b at = ap (checkFor (partOf d) d r) (desk-from d r b at)
+-- an answer, the offset that it tells m more
+unfoldable pub laterAnswer : ℕ → Answer → Answer
+laterAnswer m (Answer.Done n) = Answer.Done n
+laterAnswer m (Answer.Refused c at) = Answer.Refused c (m + at)
+
+answer-later : (m l : ℕ) (x : Reading (List Step)) → checkAnswer l (laterReading m x) ≡ laterAnswer m (checkAnswer l x)
+unfolding checkAnswer laterReading laterAnswer
+answer-later m l (Reading.Read ss next) = refl
+answer-later m l (Reading.Refused c at) = refl
+
+module _ (d : ℕ) (r : FrameRange) (b : List ℕ) (at : ℕ) where
+  -- and so a check at an offset is the check of the bytes from there on, with that offset added to the one that the layout tells
+  pub check-from : (p : Part) → partOf d ≡ PartAnswer.Known p → r .first + r .count ≤ countAt d → checkAt d r b at ≡ laterAnswer at (check d r (drop at b))
+  check-from p k fits =
+      sym (check-layout d r (deskLayoutAt d r b at) (partOf d) refl p k fits)
+      ∙ ap (checkAnswer (lengthAt d)) (desk-from d r b at)
+      ∙ answer-later at (lengthAt d) (deskLayout d r (drop at b))
+      ∙ ap (laterAnswer at) (check-layout d r (deskLayout d r (drop at b)) (partOf d) refl p k fits)
+
+  -- "21 and 37 tell 0", at any offset
+  pub unknown-from : (c : Refusal) → partOf d ≡ PartAnswer.Refused c → checkAt d r b at ≡ check d r (drop at b)
+  unknown-from c k = sym (check-no-part d r _ (partOf d) refl c k) ∙ check-no-part d r _ (partOf d) refl c k
+
+  pub range-from : (p : Part) → partOf d ≡ PartAnswer.Known p → countAt d < r .first + r .count → checkAt d r b at ≡ check d r (drop at b)
+  range-from p k past = sym (check-wrong-range d r _ (partOf d) refl p k past) ∙ check-wrong-range d r _ (partOf d) refl p k past

@@ -1,12 +1,13 @@
 -- A device number of at most 7 names a part, and L and F at the number are the part's; a frame under F has its place in the memory.
 -- By one lookup in the table of parts; the limits hold at every number, since the figures are 0 where it names no part.
-use mathlib.Core.Path.{_≡_, refl}
+use mathlib.Core.Path.{_≡_, refl, sym}
 use Prim.Native.Nat.{ℕ, _+_, _*_, _≤_, _<_}
 use native.Mathlib.Omega.{arith}
 use lib.ListN.{getD}
 use borrow.Author.Tests.{lt-ltb}
 use Rattle.parts.specs.Table.{part, parts, partOf, figureOf, figure, idcodeOf, frameLength, frameCount, memoryLength, idcodeAt, lengthAt, countAt, memoryAt}
 use Rattle.parts.specs.Laws.PrintedFigures.{Limits, known-limits, length-limit, count-limit, idcode-limit}
+use Rattle.parts.specs.Laws.KnownParts.{figure-known}
 use Rattle.parts.specs.Laws.FramePlacing.{frame-end}
 use Rattle.parts.specs.declared.table.Part.{Part}
 use Rattle.parts.specs.declared.table.PartAnswer.{PartAnswer}
@@ -20,10 +21,6 @@ pub record Figures (d : ℕ) : Type 0 where
   pub length-positive : 0 < lengthAt d
   pub length-limit : lengthAt d ≤ 213
 
-figure-at : (f : Part → ℕ) (d : ℕ) (p : Part) → partOf d ≡ PartAnswer.Known p → figure f d ≡ f p
-unfolding figureOf
-figure-at f d p k = rw k
-
 length-positive : (p : Part) → 0 < frameLength p
 unfolding frameLength
 length-positive p = omega arith
@@ -36,12 +33,12 @@ pub figures : (d : ℕ) → d ≤ 7 → Figures d
 figures d h =
     let p = getD parts d (part 0 0 0 0) in
     let k = known-part d h in
-    let l = figure-at frameLength d p k in
+    let l = sym (figure-known frameLength d (partOf d) p refl k) in
     record {
       part = p;
       known = k;
       length = l;
-      count = figure-at frameCount d p k;
+      count = sym (figure-known frameCount d (partOf d) p refl k);
       length-positive = omega (arith, length-positive p);
       length-limit = omega (arith, length-limit p (known-limits d p k));
     }

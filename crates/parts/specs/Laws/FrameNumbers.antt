@@ -145,3 +145,7 @@ module _ (d : ℕ) where
             | no h ↦ simp (le-ltb n (frameCount p) (omega arith)) (omega arith)
           ]
       go (PartAnswer.Refused c) e = omega arith
+
+-- what a lookup tells is a word
+pub told-small : (d n : ℕ) (a : Answer) → a ≡ frameAddress d n → answerValue a < 2 ^ 27
+told-small d n a e = rw e (address-small d n)

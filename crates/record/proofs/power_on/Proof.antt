@@ -3,7 +3,7 @@
 use mathlib.Core.Path.{_∙_, ap}
 use borrow.Author.Needs.{needs}
 use Rattle.record.specs.PowerOn.{Outcome}
-use Rattle.record.specs.Laws.FreshRecord.{no-part, wrong-memory, cleared}
+use Rattle.record.specs.Laws.FreshRecord.{power-no-part, power-wrong-memory, power-done}
 use Rattle.record.proofs.power_on.Statement.{statement}
 use Rattle.record.proofs.power_on.Tie as tie
 
@@ -30,7 +30,7 @@ fresh-requires-2 c κs = search needs
 
 returns : tie.Need-returns
 returns c =
-    let e = wrong-memory _ _ _ (c .before .before .before .before .before .part-of .ensures) _ (c .before .before .before .enum-told .given .1) (rw (c .before .before .memory-at .ensures) at (c .before .if1 .taken)) in
+    let e = power-wrong-memory _ _ _ (c .before .before .before .before .before .part-of .ensures) _ (c .before .before .before .enum-told .given .1) (rw (c .before .before .memory-at .ensures) at (c .before .if1 .taken)) in
     (c .fresh2 .ensures ∙ ap (λ (o : Outcome). o .«record») e, (ap (λ (o : Outcome). o .answer) e, ap (λ (o : Outcome). o .memory) e))
 
 clear-requires : tie.Need-clear-requires
@@ -41,7 +41,7 @@ fresh-requires-3 c κs = search needs
 
 returns-2 : tie.Need-returns-2
 returns-2 c =
-    let e = no-part _ _ _ (c .before .before .before .before .part-of .ensures) _ (c .before .before .part .given .1) in
+    let e = power-no-part _ _ _ (c .before .before .before .before .part-of .ensures) _ (c .before .before .part .given .1) in
     (c .fresh .ensures ∙ ap (λ (o : Outcome). o .«record») e, (ap (λ (o : Outcome). o .answer) e, ap (λ (o : Outcome). o .memory) e))
 
 same-length : tie.Need-same-length
@@ -50,7 +50,7 @@ same-length c = search needs
 returns-3 : tie.Need-returns-3
 returns-3 c =
     let same = rw (c .before .before .before .before .before .before .memory-at .ensures) at (c .before .before .before .before .before .if1 .left) in
-    let e = cleared _ _ _ (c .before .before .before .before .before .before .before .before .before .part-of .ensures) _ (c .before .before .before .before .before .before .before .enum-told .given .1) same in
+    let e = power-done _ _ _ (c .before .before .before .before .before .before .before .before .before .part-of .ensures) _ (c .before .before .before .before .before .before .before .enum-told .given .1) same in
     (c .fresh3 .ensures ∙ ap (λ (o : Outcome). o .«record») e, (ap (λ (o : Outcome). o .answer) e, (rw same at (c .before .before .before .clear .ensures)) ∙ ap (λ (o : Outcome). o .memory) e))
 
 pub power-on-spec : {M : Type 1} → statement M

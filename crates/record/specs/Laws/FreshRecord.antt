@@ -1,4 +1,4 @@
--- Power-on of a known part with a memory of its length: it is done, the memory is zero, and the record is consistent.
+-- Power-on, case by case: 21, 23, or done, with a memory of zeros and a record that is consistent.
 -- By the part that the device number names; frame 0 is a frame of every part, since F is at least 45.
 use mathlib.Core.Path.{_≡_, _∙_, refl, sym, ap}
 use mathlib.Core.Logic.{_≢_}
@@ -26,23 +26,23 @@ count-positive p = omega arith
 -- ---- power-on, case by case
 
 module _ (d : ℕ) (m : List ℕ) (q : PartAnswer) (e : q ≡ partOf d) where
-  pub no-part : (c : Refusal) → q ≡ PartAnswer.Refused c → notPowered c m ≡ powerOn d m
+  pub power-no-part : (c : Refusal) → q ≡ PartAnswer.Refused c → notPowered c m ≡ powerOn d m
   unfolding powered
-  no-part c k = ap (λ (v : PartAnswer). powered v d m) (sym k ∙ e)
+  power-no-part c k = ap (λ (v : PartAnswer). powered v d m) (sym k ∙ e)
 
-  pub wrong-memory : (p : Part) → q ≡ PartAnswer.Known p → length m ≢ memoryAt d → notPowered Refusal.WrongMemory m ≡ powerOn d m
+  pub power-wrong-memory : (p : Part) → q ≡ PartAnswer.Known p → length m ≢ memoryAt d → notPowered Refusal.WrongMemory m ≡ powerOn d m
   unfolding powered
-  wrong-memory p k other = simp (ne-eqb _ _ other) at (ap (λ (v : PartAnswer). powered v d m) (sym k ∙ e))
+  power-wrong-memory p k other = simp (ne-eqb _ _ other) at (ap (λ (v : PartAnswer). powered v d m) (sym k ∙ e))
 
   -- 01: "memory, registers and frame words zero, all flags clear, current frame 0, hunting"
-  pub cleared : (p : Part) → q ≡ PartAnswer.Known p → length m ≡ memoryAt d
+  pub power-done : (p : Part) → q ≡ PartAnswer.Known p → length m ≡ memoryAt d
       → record { «record» = fresh d; memory = replicate (memoryAt d) 0; answer = LoadAnswer.Done; taken = 0 } ≡ powerOn d m
   unfolding powered
-  cleared p k room = simp (eq-eqb _ _ room) at (ap (λ (v : PartAnswer). powered v d m) (sym k ∙ e))
+  power-done p k room = simp (eq-eqb _ _ room) at (ap (λ (v : PartAnswer). powered v d m) (sym k ∙ e))
 
 pub powered-so : (d : ℕ) (m : List ℕ) → d ≤ 7 → length m ≡ memoryAt d
     → powerOn d m ≡ record { «record» = fresh d; memory = replicate (memoryAt d) 0; answer = LoadAnswer.Done; taken = 0 }
-powered-so d m h room = let f = figures d h in sym (cleared d m (partOf d) refl (f .part) (f .known) room)
+powered-so d m h room = let f = figures d h in sym (power-done d m (partOf d) refl (f .part) (f .known) room)
 
 pub fresh-consistent : (d : ℕ) → d ≤ 7 → consistent (fresh d .phase) (fresh d .control) ≡ true
 unfolding consistent currentFits phaseFits fresh freshControl

@@ -4,7 +4,7 @@ use mathlib.Core.Path.{_∙_, ap}
 use native.Mathlib.Omega.{arith}
 use borrow.Author.Needs.{needs}
 use Rattle.answers.specs.AnswerNumbers.{answerNumber, answerValue}
-use Rattle.parts.specs.Laws.FrameNumbers.{address-small}
+use Rattle.parts.specs.Laws.FrameNumbers.{told-small}
 use Rattle.seamwillow.proofs.sw_frame_address.Statement.{statement}
 use Rattle.seamwillow.proofs.sw_frame_address.Tie as tie
 
@@ -15,9 +15,7 @@ answer-value-requires : tie.Need-answer-value-requires
 answer-value-requires c κs = search needs
 
 cast-address : tie.Need-cast-address
-cast-address c =
-    let a = c .before .before .args in
-    omega (arith, address-small (a .device) (a .number), c .answer-value .ensures ∙ ap answerValue (c .before .frame-address .ensures))
+cast-address c = omega (arith, told-small _ _ _ (c .before .frame-address .ensures), c .answer-value .ensures)
 
 answer-number-requires : tie.Need-answer-number-requires
 answer-number-requires c κs = search needs

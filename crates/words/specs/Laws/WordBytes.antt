@@ -35,7 +35,7 @@ bytes-append (x ∷ xs) ys = ap (λ bs. x / 2 ^ 24 % 2 ^ 8 ∷ x / 2 ^ 16 % 2 ^ 
 -- ---- words of bytes
 
 -- a word of four bytes has 32 bits
-pub four-small : (a b c d : ℕ) → a < 2 ^ 8 → b < 2 ^ 8 → c < 2 ^ 8 → d < 2 ^ 8 → wordOf a b c d < 2 ^ 32
+four-small : (a b c d : ℕ) → a < 2 ^ 8 → b < 2 ^ 8 → c < 2 ^ 8 → d < 2 ^ 8 → wordOf a b c d < 2 ^ 32
 four-small a b c d ha hb hc hd = omega arith
 
 pub word-small : (bytes : List ℕ) (at : ℕ) → AreBytes bytes → wordAt bytes at < 2 ^ 32

@@ -1,4 +1,4 @@
--- Words read one after the other: the next of them, the four bytes that it is of, and words of a part of the bytes.
+-- Words read one after the other: the next of them and its four bytes, and words of a part of the bytes.
 -- By the definitions' own steps, and by induction over the words.
 use mathlib.Core.Path.{_≡_, _∙_, refl, sym, ap}
 use mathlib.Core.List.{List, [], _∷_, _++_}

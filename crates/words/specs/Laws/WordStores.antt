@@ -1,4 +1,4 @@
--- Words stored one after the other from an offset on: they join, the next of them, and what past the end is left out.
+-- Words stored one after the other from an offset on: they join, the next of them, and that bytes past the end are left out.
 -- By induction on the bytes that are stored.
 use mathlib.Core.Path.{_≡_, _∙_, refl, sym, ap}
 use mathlib.Core.List.{List, [], _∷_, _++_, append-nil}
@@ -12,7 +12,7 @@ use Rattle.words.specs.Laws.WordBytes.{bytes-length, bytes-append}
 
 -- ---- runs of stores
 
-pub sets-append : (l : List ℕ) (i : ℕ) (xs ys : List ℕ) → sets l i (xs ++ ys) ≡ sets (sets l i xs) (i + length xs) ys
+sets-append : (l : List ℕ) (i : ℕ) (xs ys : List ℕ) → sets l i (xs ++ ys) ≡ sets (sets l i xs) (i + length xs) ys
 sets-append l i [] ys = let e : i + 0 ≡ i = omega arith in rw e
 sets-append l i (x ∷ xs) ys = let e : i + suc (length xs) ≡ suc i + length xs = omega arith in sets-append (set l i x) (suc i) xs ys ∙ rw e
 

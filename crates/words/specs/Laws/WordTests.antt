@@ -1,4 +1,4 @@
--- Words compared one after the other from an offset on: a list that starts with another, the next word, a word by its number.
+-- Words compared one after the other from an offset on: a list that starts with another, the next word, and that four bytes are a word's where the word read is that word.
 -- By induction on the bytes; a word is equal where its four bytes are.
 use mathlib.Core.Path.{_≡_, _∙_, refl, sym, ap}
 use mathlib.Core.List.{List, [], _∷_, _++_}
@@ -17,14 +17,14 @@ use Rattle.words.specs.Laws.WordReads.{word-drop, four-bytes}
 
 -- ---- lists that start with lists
 
-pub starts-append : (xs ys zs : List ℕ) → starts (xs ++ ys) zs ≡ starts xs zs && starts ys (drop (length xs) zs)
+starts-append : (xs ys zs : List ℕ) → starts (xs ++ ys) zs ≡ starts xs zs && starts ys (drop (length xs) zs)
 unfolding starts
 starts-append [] ys zs = refl
 starts-append (x ∷ xs) ys [] = refl
 starts-append (x ∷ xs) ys (z ∷ zs) = ap (λ b. eqb z x && b) (starts-append xs ys zs) ∙ sym (and-assoc (eqb z x) _ _)
 
 -- none starts with a longer one
-pub starts-short : (xs ys : List ℕ) → length ys < length xs → starts xs ys ≡ false
+starts-short : (xs ys : List ℕ) → length ys < length xs → starts xs ys ≡ false
 unfolding starts
 starts-short [] ys h = absurd (omega arith)
 starts-short (x ∷ xs) [] h = refl

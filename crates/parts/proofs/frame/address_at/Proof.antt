@@ -4,7 +4,7 @@ use native.Mathlib.Omega.{arith}
 use borrow.Author.Needs.{needs}
 use mathlib.Core.Path.{_∙_, ap}
 use Rattle.answers.specs.AnswerNumbers.{answerValue}
-use Rattle.parts.specs.Laws.FrameNumbers.{address-small}
+use Rattle.parts.specs.Laws.FrameNumbers.{told-small}
 use Rattle.parts.proofs.frame.address_at.Statement.{statement}
 use Rattle.parts.proofs.frame.address_at.Tie as tie
 
@@ -15,9 +15,7 @@ answer-value-requires : tie.Need-answer-value-requires
 answer-value-requires c κs = search needs
 
 cast-result : tie.Need-cast-result
-cast-result c =
-    let a = c .before .before .args in
-    omega (arith, address-small (a .device) (a .number), c .answer-value .ensures ∙ ap answerValue (c .before .frame-address .ensures))
+cast-result c = omega (arith, told-small _ _ _ (c .before .frame-address .ensures), c .answer-value .ensures)
 
 returns : tie.Need-returns
 returns c = c .answer-value .ensures ∙ ap answerValue (c .before .frame-address .ensures)
