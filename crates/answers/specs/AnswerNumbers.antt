@@ -11,7 +11,8 @@ abbrev pub answerNumber : Answer → ℕ
 answerNumber (Answer.Done n) = 0
 answerNumber (Answer.Refused c told) = refusalNumber c
 
--- the value that the call is done with, or what its refusal tells: "The place is where the offending number starts"; "36 tells the length needed; 21 and 37 tell 0"; "success answers 0 and the stream's length"
+-- the value that the call is done with, or what its refusal tells: "success answers 0 and the stream's length"; "The place is where the
+-- offending number starts"; "36 tells the length needed; 21 and 37 tell 0"
 abbrev pub answerValue : Answer → ℕ
 answerValue (Answer.Done n) = n
 answerValue (Answer.Refused c told) = told

@@ -38,7 +38,7 @@ overwritten bytes out = bytes ++ drop (length bytes) out
 unfoldable pub compiledAfter : Answer → ℕ → FrameRange → List ℕ → List ℕ → Compiled
 compiledAfter (Answer.Done n) d r b out =
     cond (ltb (length out) n) (compiles (Answer.Refused Refusal.ShortOutput n) out) (compiles (Answer.Done n) (overwritten (streamFor d r b) out))
-compiledAfter (Answer.Refused c at) d r b out = compiles (Answer.Refused c at) out
+compiledAfter (Answer.Refused c told) d r b out = compiles (Answer.Refused c told) out
 
 abbrev pub compiled : ℕ → FrameRange → List ℕ → List ℕ → Compiled
 compiled d r b out = compiledAfter (check d r b) d r b out

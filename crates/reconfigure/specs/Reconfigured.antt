@@ -37,7 +37,7 @@ module _ (e : Record) (m : List ℕ) (r : FrameRange) (b out : List ℕ) where
     output = overwritten (streamFor (e .control .device) r b) out;
     answer = Answer.Done n;
   }
-  reconfiguredAfter (Answer.Refused c at) = unchanged (Answer.Refused c at)
+  reconfiguredAfter (Answer.Refused c told) = unchanged (Answer.Refused c told)
 
   -- 22, 23, then 24, then the compiler's
   unfoldable pub reconfigured : Reconfigured

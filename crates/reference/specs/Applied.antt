@@ -24,7 +24,7 @@ applies v m = record { answer = v; memory = m }
 -- what a check's answer leads to
 unfoldable pub appliedAfter : Answer → ℕ → List ℕ → List ℕ → Applied
 appliedAfter (Answer.Done n) d b m = cond (eqb (length m) (memoryAt d)) (applies (Answer.Done n) (machine d b m)) (applies (Answer.Refused Refusal.WrongMemory 0) m)
-appliedAfter (Answer.Refused c at) d b m = applies (Answer.Refused c at) m
+appliedAfter (Answer.Refused c told) d b m = applies (Answer.Refused c told) m
 
 abbrev pub applied : ℕ → FrameRange → List ℕ → List ℕ → Applied
 applied d r b m = appliedAfter (check d r b) d b m
