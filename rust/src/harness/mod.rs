@@ -9,5 +9,6 @@ pub mod programs;
 pub mod repository;
 pub mod sides;
 pub mod timing;
+pub mod tools;
 pub mod worked;
 pub mod worked_layout;

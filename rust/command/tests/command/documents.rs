@@ -4,7 +4,7 @@
 //! up to the next command or the block's end. A block after "in `NAME`:" is put into that file.
 
 use crate::common::Scratch;
-use crate::tools::{has, ran, root};
+use seamwillow_tests::harness::tools::{has, ran, root};
 use std::env;
 use std::fs;
 use std::iter;

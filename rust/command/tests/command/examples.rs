@@ -1,7 +1,7 @@
 //! `examples/`: the stored files are made again and compared, and have the verdicts that they are kept for.
 
 use crate::common::Scratch;
-use crate::tools::{ran, root, run};
+use seamwillow_tests::harness::tools::{ran, root, run};
 use std::fs;
 use std::path::{Path, PathBuf};
 use std::process::Command;

@@ -1,7 +1,7 @@
 //! `make install`: every file comes to its place, and what is installed can be used from C and from Python.
 
 use crate::common::Scratch;
-use crate::tools::{archive, c_compiler, has, ran, root, run, STRICT_C};
+use seamwillow_tests::harness::tools::{archive, c_compiler, has, ran, root, run, STRICT_C};
 use std::fs;
 use std::os::unix::fs::PermissionsExt;
 use std::path::{Path, PathBuf};

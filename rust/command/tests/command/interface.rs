@@ -1,7 +1,7 @@
 //! `include/seamwillow.h`: C and C++ take it without a warning, and what it declares is the library's.
 
 use crate::common::Scratch;
-use crate::tools::{archive, c_compiler, has, root, run, STRICT_C};
+use seamwillow_tests::harness::tools::{archive, c_compiler, has, root, run, STRICT_C};
 use std::collections::BTreeSet;
 use std::fs;
 use std::process::Command;

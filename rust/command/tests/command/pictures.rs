@@ -5,8 +5,8 @@ mod png;
 
 use crate::common::streams::partial;
 use crate::common::Scratch;
-use crate::tools::{has, ran, root, run};
 use markup::{elements, Element};
+use seamwillow_tests::harness::tools::{has, ran, root, run};
 use seamwillow_tests::independent::reference::{address_fields, LOOKUPS, PARTS};
 use seamwillow_tests::independent::stream::full_configuration;
 use std::collections::{BTreeMap, BTreeSet};

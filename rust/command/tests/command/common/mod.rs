@@ -4,7 +4,7 @@ pub mod expected;
 pub mod json;
 pub mod streams;
 
-use crate::tools::has;
+use seamwillow_tests::harness::tools::has;
 use std::ffi::OsStr;
 use std::fs;
 use std::io::{ErrorKind, Write};

@@ -1,8 +1,9 @@
 //! The project's folder, programs that must succeed, and tools that the machine may have.
 
+use crate::harness::repository::place;
 use std::env;
 use std::io::{self, Write};
-use std::path::{Path, PathBuf};
+use std::path::PathBuf;
 use std::process::{Command, Output, Stdio};
 
 /// What is asked of C that includes the header.
@@ -35,8 +36,8 @@ pub fn has(tool: &str, skipped: &str) -> bool {
 
 /// The project's folder.
 pub fn root() -> PathBuf {
-    let root = Path::new(env!("CARGO_MANIFEST_DIR")).join("../..");
-    root.canonicalize()
+    place("")
+        .canonicalize()
         .expect("the project is where it was built")
 }
 
