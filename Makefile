@@ -1,5 +1,5 @@
 # make            proves and builds the library, builds the command, and puts both under build/
-# make check      runs the gate, which takes some 40 minutes
+# make check      runs the gate, which takes 26 to 53 minutes
 # make install    PREFIX=/usr/local DESTDIR=; needs no root where PREFIX is yours, and builds nothing that is fresh
 # make uninstall  with the same PREFIX and DESTDIR
 # make clean      removes build/ and rust/target; the proved library in target/ stays, since proofs take minutes
