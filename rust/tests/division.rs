@@ -46,6 +46,19 @@ fn the_address_of_a_frame_number_needs_no_division() {
     assert_eq!(LOOKUPS.divisions(ADDRESS), []);
 }
 
+/// The compiler asks `address_at` for an address, a program in C `sw_frame_address`.
+#[test]
+fn what_hands_the_address_on_needs_no_division_either() {
+    let asked = [
+        (&LOOKUPS, "parts::frame::address_at"),
+        (&LIBRARY, "seamwillow::sw_frame_address"),
+    ];
+    for (functions, name) in asked {
+        assert!(functions.reached(name).contains_key(ADDRESS));
+        assert_eq!(functions.divisions(name), [], "{name}");
+    }
+}
+
 /// The negative control: the same look at the other direction finds every `/` and `%` that is there.
 #[test]
 fn the_divisions_of_the_other_direction_are_seen() {

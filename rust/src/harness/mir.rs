@@ -1,6 +1,6 @@
-//! The compiler's MIR, in which a crate is proved and from which its machine code is made: nested
-//! lists, each with the name of its form first. The kit defines it in `logic/Mir/Syntax.antt`: a call
-//! names its function, and of the operations on integers `div` and `rem` divide.
+//! The compiler's MIR, in which a crate is proved: nested lists, each with the name of its form first.
+//! The kit defines it in `logic/Mir/Syntax.antt`: a call names its function, and of the operations on
+//! integers `div` and `rem` divide.
 
 use crate::harness::calls::{Function, Functions};
 use crate::harness::tools::{root, run};
