@@ -31,13 +31,19 @@ enum sw_refused {
     SW_REFUSED_INCONSISTENT = 22,   /* record inconsistent, or its image not SW_RECORD_LEN bytes */
     SW_REFUSED_WRONG_MEMORY = 23,   /* memory length not the part's */
     SW_REFUSED_NOT_HUNTING = 24,    /* the record does not wait for sync (a number of this interface) */
-    SW_REFUSED_MALFORMED = 31,      /* layout malformed */
     SW_REFUSED_WRONG_EDITION = 32,  /* edition not 1 */
     SW_REFUSED_WRONG_DEVICE = 33,   /* layout's device not the desk's */
     SW_REFUSED_OUTSIDE_PART = 34,   /* frame outside the part */
     SW_REFUSED_OUTSIDE_RANGE = 35,  /* frame outside the range that the desk names */
     SW_REFUSED_SHORT_OUTPUT = 36,   /* output shorter than the stream */
-    SW_REFUSED_WRONG_RANGE = 37     /* range's first frame plus count above the part's frames */
+    SW_REFUSED_WRONG_RANGE = 37,    /* range's first frame plus count above the part's frames */
+    SW_REFUSED_BAD_NUMBER = 41,     /* layout: a badly formed count or number */
+    SW_REFUSED_MISSING_BYTES = 42,  /* layout: bytes missing, or a number cut short by the end */
+    SW_REFUSED_UNKNOWN_KIND = 43,   /* layout: a kind of step that does not exist */
+    SW_REFUSED_ZERO_COUNT = 44,     /* layout: a step's count is 0 */
+    SW_REFUSED_NOT_RISING = 45,     /* layout: targets not rising */
+    SW_REFUSED_TOO_MANY_STEPS = 46, /* layout: more than 4096 steps */
+    SW_REFUSED_BYTES_AFTER = 47     /* layout: bytes after the last step */
 };
 
 /* The CRC register (crc modulo 65,536) after word is fed for register address reg (modulo 32). */
@@ -111,6 +117,16 @@ uint32_t sw_load(uint8_t *record, size_t record_len, uint8_t *memory, size_t mem
    then the layout's. The frames that the layout may name are count of them from first on. */
 uint32_t sw_check(uint32_t device, uint32_t first, uint32_t count, const uint8_t *layout, size_t layout_len,
                   uint64_t *value);
+
+/* To say what is refused, and in which step: a layout is an edition, a device, a step count and that many steps. */
+
+/* The number that begins at an offset of a layout: 0, 41 or 42; value and the offset after it, both 0 where refused. */
+uint32_t sw_read_number(const uint8_t *layout, size_t layout_len, size_t at, uint32_t *value, uint64_t *next);
+
+/* The step that begins at an offset of a layout: 0 and the offset after it, or the refusal number and its offset. Neither
+   21 nor 37 is given: for a device above 7 every step is refused, one that has its form with 34. */
+uint32_t sw_read_step(uint32_t device, uint32_t first, uint32_t count, const uint8_t *layout, size_t layout_len,
+                      size_t at, uint64_t *value);
 
 /* Answers as sw_check, then 23 with value 0 for a memory of another length than the part's. 0 does the layout's steps
    on the memory; a refusal leaves it as it was. */

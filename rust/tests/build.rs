@@ -173,43 +173,22 @@ fn refused_layouts() {
     let one = one_step(&frame_write(0, 1, &frame));
     let to_three = |targets| one_step(&multi_frame_write(&frame, targets));
     let cases: [(&[u8], &str); 15] = [
-        (b"", "31 at offset 0: malformed layout: bytes missing"),
-        (
-            b"\x81\0\0\0",
-            "31 at offset 0: malformed layout: a number in a bad form",
-        ),
+        (b"", "42 at offset 0: bytes missing"),
+        (b"\x81\0\0\0", "41 at offset 0: a number in a bad form"),
         (
             b"\x01\0\xFF\xFF\xFF\xFF\x10",
-            "31 at offset 2: malformed layout: a number in a bad form",
+            "41 at offset 2: a number in a bad form",
         ),
-        (
-            &one[..153],
-            "31 at offset 153: malformed layout: bytes missing",
-        ),
-        (
-            b"\x01\0\x01\x03",
-            "31 at offset 3: malformed layout: a step of unknown kind",
-        ),
-        (
-            b"\x01\0\x01\x01\0\0",
-            "31 at offset 5: malformed layout: a count of 0",
-        ),
-        (
-            b"\x01\0\x01\x02\0",
-            "31 at offset 4: malformed layout: a count of 0",
-        ),
+        (&one[..153], "42 at offset 153: bytes missing"),
+        (b"\x01\0\x01\x03", "43 at offset 3: a step of unknown kind"),
+        (b"\x01\0\x01\x01\0\0", "44 at offset 5: a count of 0"),
+        (b"\x01\0\x01\x02\0", "44 at offset 4: a count of 0"),
         (
             &to_three(&[5, 6, 6]),
-            "31 at offset 155: malformed layout: frame numbers that do not rise",
+            "45 at offset 155: frame numbers that do not rise",
         ),
-        (
-            b"\x01\0\x81\x20",
-            "31 at offset 2: malformed layout: too many steps",
-        ),
-        (
-            b"\x01\0\0\0",
-            "31 at offset 3: malformed layout: bytes after the last step",
-        ),
+        (b"\x01\0\x81\x20", "46 at offset 2: too many steps"),
+        (b"\x01\0\0\0", "47 at offset 3: bytes after the last step"),
         (b"\x02\0\0", "32 at offset 0: an edition other than 1"),
         (b"\x01\x01\0", "33 at offset 1: a layout for another device"),
         (
@@ -220,10 +199,7 @@ fn refused_layouts() {
             &to_three(&[5, 6, 368]),
             "34 at offset 155: a frame outside the part",
         ),
-        (
-            b"\x01\0\xFF",
-            "31 at offset 2: malformed layout: bytes missing",
-        ),
+        (b"\x01\0\xFF", "42 at offset 2: bytes missing"),
     ];
     for (layout, line) in cases {
         let output = run_for(Desk::whole(0), layout);
@@ -271,7 +247,7 @@ fn too_long_a_stream() {
 fn too_long_an_input() {
     let mut layout = vec![1, 0, 0];
     layout.resize(MOST_LAYOUT, 0);
-    let trailing = "build: 31 at offset 3: malformed layout: bytes after the last step";
+    let trailing = "build: 47 at offset 3: bytes after the last step";
     assert_tells(
         &run_for(Desk::whole(0), &layout),
         trailing,

@@ -12,7 +12,7 @@ const LAYOUTS: u64 = 520_000;
 /// Of those, at least so many give streams.
 const STREAMS: u32 = 200_000;
 /// Those that the C interface gives.
-const NUMBERS: [u32; 9] = [0, 21, 31, 32, 33, 34, 35, 36, 37];
+const NUMBERS: [u32; 15] = [0, 21, 32, 33, 34, 35, 36, 37, 41, 42, 43, 44, 45, 46, 47];
 
 /// A frame of the XC3S50.
 const FRAME: [u8; 148] = [0xA5; 148];
@@ -50,8 +50,8 @@ fn the_papers_refusals() {
     };
     let cases: [(Desk, &[u8], (u32, u64)); 7] = [
         (of_range(0, 256), &[1, 0, 1, 1, 0x80, 2, 1], (35, 4)),
-        (of_range(0, 368), &[], (31, 0)),
-        (of_range(0, 368), &[0x81, 0, 0, 0], (31, 0)),
+        (of_range(0, 368), &[], (42, 0)),
+        (of_range(0, 368), &[0x81, 0, 0, 0], (41, 0)),
         (of_range(0, 368), &[2, 0, 0], (32, 0)),
         (of_range(0, 368), &[1, 1, 0], (33, 1)),
         (of_range(364, 5), &[1, 0, 0], (37, 0)),

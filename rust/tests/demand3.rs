@@ -16,7 +16,9 @@ const CALLS: u64 = 80_000;
 const SEQUENCES: u64 = 4_000;
 
 /// Those that a reconfiguration gives.
-const NUMBERS: [u32; 11] = [0, 22, 23, 24, 31, 32, 33, 34, 35, 36, 37];
+const NUMBERS: [u32; 17] = [
+    0, 22, 23, 24, 32, 33, 34, 35, 36, 37, 41, 42, 43, 44, 45, 46, 47,
+];
 
 /// Loads a stream on both sides, whole and in pieces, and asserts demand 3.
 fn assert_done(random: &mut Random, case: &Case, stream: &[u8]) {

@@ -1,5 +1,5 @@
-//! What the scope paper (01) says of layouts, worked by hand on the XC3S50: its examples, each
-//! refusal with its offset, and what the steps do.
+//! What the scope paper (01) and the requests (02) say of layouts, worked by hand on the XC3S50:
+//! 01's examples with 02's numbers, each refusal with its offset, and what the steps do.
 
 use seamwillow_tests::harness::layout_sides::{INDEPENDENT, PROVED};
 use seamwillow_tests::independent::layout::{number, Desk};
@@ -45,8 +45,8 @@ fn assert_refused(desk: Desk, pieces: &[&[u8]], answer: (u32, u64)) {
 fn the_papers_examples() {
     let no_steps: &[u8] = &[1, 0, 0];
     assert_answer(WHOLE, &[no_steps], (0, 48));
-    assert_refused(WHOLE, &[], (31, 0));
-    assert_refused(WHOLE, &[&[0x81, 0, 0, 0]], (31, 0));
+    assert_refused(WHOLE, &[], (42, 0));
+    assert_refused(WHOLE, &[&[0x81, 0, 0, 0]], (41, 0));
     assert_refused(WHOLE, &[&[2, 0, 0]], (32, 0));
     assert_refused(WHOLE, &[&[1, 1, 0]], (33, 1));
     assert_answer(of_range(364, 4), &[no_steps], (0, 48));
@@ -72,17 +72,21 @@ fn the_papers_lengths() {
 fn numbers() {
     // The largest is a number, though no edition.
     assert_refused(WHOLE, &[&LARGEST], (32, 0));
-    for bad_number in [
-        &[0x80][..],
-        &[0x80, 0x80, 0x80, 0x80],
-        &[0x80, 0],
-        &[0x81, 0],
-        &[0x81, 0x80, 0],
-        &[0x81, 0x80, 0x80, 0x80, 0],
-        &[0xFF, 0xFF, 0xFF, 0xFF, 0x10],
-        &[0x81, 0x80, 0x80, 0x80, 0x10],
-        &[0x81, 0x80, 0x80, 0x80, 0x80, 1],
-        &[0x81, 0x80, 0x80, 0x80, 0x8F],
+    for (bad_number, number) in [
+        // Cut short by the end of the file.
+        (&[][..], 42),
+        (&[0x80], 42),
+        (&[0x80, 0x80, 0x80, 0x80], 42),
+        // Badly formed: not the shortest form.
+        (&[0x80, 0], 41),
+        (&[0x81, 0], 41),
+        (&[0x81, 0x80, 0], 41),
+        (&[0x81, 0x80, 0x80, 0x80, 0], 41),
+        // A fifth byte above 15, whatever follows it or does not.
+        (&[0xFF, 0xFF, 0xFF, 0xFF, 0x10], 41),
+        (&[0x81, 0x80, 0x80, 0x80, 0x10], 41),
+        (&[0x81, 0x80, 0x80, 0x80, 0x80, 1], 41),
+        (&[0x81, 0x80, 0x80, 0x80, 0x8F], 41),
     ] {
         // At each number of the layout, and where it starts.
         for (before, offset) in [
@@ -94,11 +98,11 @@ fn numbers() {
             (&[1, 0, 1, 1, 7], 5),
             (&[1, 0, 1, 2], 4),
         ] {
-            assert_refused(WHOLE, &[before, bad_number], (31, offset));
+            assert_refused(WHOLE, &[before, bad_number], (number, offset));
         }
         let before_targets = [&[1, 0, 1, 2, 2], &FRAME[..]].concat();
-        assert_refused(WHOLE, &[&before_targets, bad_number], (31, 153));
-        assert_refused(WHOLE, &[&before_targets, &[7], bad_number], (31, 154));
+        assert_refused(WHOLE, &[&before_targets, bad_number], (number, 153));
+        assert_refused(WHOLE, &[&before_targets, &[7], bad_number], (number, 154));
     }
 }
 
@@ -135,17 +139,17 @@ fn head_and_end() {
     assert_refused(WHOLE, &[&[1, 8]], (33, 1));
     assert_refused(WHOLE, &[&[1], &LARGEST], (33, 1));
     let step_count_4096 = [1, 0, 0x80, 0x20];
-    assert_refused(WHOLE, &[&step_count_4096], (31, 4));
+    assert_refused(WHOLE, &[&step_count_4096], (42, 4));
     let step_count_4097 = [1, 0, 0x81, 0x20];
-    assert_refused(WHOLE, &[&step_count_4097], (31, 2));
+    assert_refused(WHOLE, &[&step_count_4097], (46, 2));
     for kind in [0, 3, 127] {
-        assert_refused(WHOLE, &[&[1, 0, 1, kind]], (31, 3));
+        assert_refused(WHOLE, &[&[1, 0, 1, kind]], (43, 3));
     }
     let kind_257 = [1, 0, 1, 0x81, 2];
-    assert_refused(WHOLE, &[&kind_257, &[7, 1], &FRAME], (31, 3));
-    assert_refused(WHOLE, &[&[1, 0, 0, 0]], (31, 3));
+    assert_refused(WHOLE, &[&kind_257, &[7, 1], &FRAME], (43, 3));
+    assert_refused(WHOLE, &[&[1, 0, 0, 0]], (47, 3));
     let step = [&[1, 0, 1, 1, 0, 1], &FRAME[..]].concat();
-    assert_refused(WHOLE, &[&step, &[1, 0, 1]], (31, 154));
+    assert_refused(WHOLE, &[&step, &[1, 0, 1]], (47, 154));
 }
 
 #[test]
@@ -153,8 +157,8 @@ fn frame_writes() {
     let before: &[u8] = &[1, 0, 1, 1];
     let frame_368: &[u8] = &[0xF0, 2];
     // A zero count, at the count and before the frame is judged.
-    assert_refused(WHOLE, &[before, &[7, 0]], (31, 5));
-    assert_refused(WHOLE, &[before, &LARGEST, &[0]], (31, 9));
+    assert_refused(WHOLE, &[before, &[7, 0]], (44, 5));
+    assert_refused(WHOLE, &[before, &LARGEST, &[0]], (44, 9));
     // 34, also where the desk does not name the frame and bytes are missing.
     for desk in [WHOLE, of_range(10, 2), of_range(368, 0)] {
         assert_refused(desk, &[before, frame_368, &[1]], (34, 4));
@@ -174,14 +178,14 @@ fn frame_writes() {
     assert_answer(of_range(10, 2), &[&two_frames], (0, 520));
     for length in [6, 7, 6 + FRAME_BYTES, two_frames.len() - 1] {
         let cut = &two_frames[..length];
-        assert_refused(of_range(10, 2), &[cut], (31, length as u64));
+        assert_refused(of_range(10, 2), &[cut], (42, length as u64));
     }
 }
 
 #[test]
 fn multi_frame_writes() {
     let before: &[u8] = &[1, 0, 1, 2];
-    assert_refused(WHOLE, &[before, &[0], &FRAME], (31, 4));
+    assert_refused(WHOLE, &[before, &[0], &FRAME], (44, 4));
     // More targets than frames, also where bytes are missing.
     let count_369: &[u8] = &[0xF1, 2];
     for desk in [WHOLE, of_range(10, 2)] {
@@ -193,17 +197,17 @@ fn multi_frame_writes() {
     assert_answer(of_range(10, 2), &[&one_target], (0, 244));
     for length in [5, 6, 4 + FRAME_BYTES, 5 + FRAME_BYTES] {
         let cut = &one_target[..length];
-        assert_refused(of_range(10, 2), &[cut], (31, length as u64));
+        assert_refused(of_range(10, 2), &[cut], (42, length as u64));
     }
     let two_targets = |desk, targets: &[u8], answer| {
         assert_refused(desk, &[before, &[2], &FRAME, targets], answer);
     };
-    two_targets(WHOLE, &[3, 3], (31, 154));
-    two_targets(WHOLE, &[3, 2], (31, 154));
+    two_targets(WHOLE, &[3, 3], (45, 154));
+    two_targets(WHOLE, &[3, 2], (45, 154));
     let third_target = &[before, &[3], &FRAME, &[3, 5, 4]];
-    assert_refused(WHOLE, third_target, (31, 155));
+    assert_refused(WHOLE, third_target, (45, 155));
     // Not rising comes before 35.
-    two_targets(of_range(10, 2), &[10, 3], (31, 154));
+    two_targets(of_range(10, 2), &[10, 3], (45, 154));
     // Frame 368, alone and after frame 367.
     two_targets(WHOLE, &[0xF0, 2], (34, 153));
     two_targets(WHOLE, &[0xEF, 2, 0xF0, 2], (34, 155));

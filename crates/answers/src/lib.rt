@@ -1,4 +1,4 @@
-// 01's table of stops and refusals, with the map to its numbers, and the answers that are made of its rows.
+// The table of stops and refusals of 01 and 02, with the map to its numbers, and the answers that are made of its rows.
 ghost use mathlib.Core.Path.{_≡_};
 ghost use Rattle.answers.specs.StopsAndRefusals.{stopNumber, refusalNumber};
 ghost use Rattle.answers.specs.AnswerNumbers.{answerNumber, answerValue, loadNumber};
@@ -17,13 +17,19 @@ pub enum Stop {
     UnknownCommand,
 }
 
-// Why a call is refused: 01's refusals in the order of their numbers, with each cause of 31, and the C interface's 24.
+// Why a call is refused: the refusals of 01 and 02 in the order of their numbers, and the C interface's 24.
 // Missing: bytes are missing, or a number is cut short. Trailing: bytes follow the last step.
 pub enum Refusal {
     UnknownDevice,
     Inconsistent,
     WrongMemory,
     NotHunting,
+    WrongEdition,
+    WrongDevice,
+    OutsidePart,
+    OutsideRange,
+    ShortOutput,
+    WrongRange,
     BadForm,
     Missing,
     UnknownKind,
@@ -31,12 +37,6 @@ pub enum Refusal {
     NotRising,
     TooManySteps,
     Trailing,
-    WrongEdition,
-    WrongDevice,
-    OutsidePart,
-    OutsideRange,
-    ShortOutput,
-    WrongRange,
 }
 
 // Done with a value, or refused with what the refusal tells: an offset, the length needed, or 0.
@@ -79,19 +79,19 @@ pub fn refusal_number(refusal: Refusal) -> u32
         Refusal::Inconsistent => 22,
         Refusal::WrongMemory => 23,
         Refusal::NotHunting => 24,
-        Refusal::BadForm => 31,
-        Refusal::Missing => 31,
-        Refusal::UnknownKind => 31,
-        Refusal::ZeroCount => 31,
-        Refusal::NotRising => 31,
-        Refusal::TooManySteps => 31,
-        Refusal::Trailing => 31,
         Refusal::WrongEdition => 32,
         Refusal::WrongDevice => 33,
         Refusal::OutsidePart => 34,
         Refusal::OutsideRange => 35,
         Refusal::ShortOutput => 36,
         Refusal::WrongRange => 37,
+        Refusal::BadForm => 41,
+        Refusal::Missing => 42,
+        Refusal::UnknownKind => 43,
+        Refusal::ZeroCount => 44,
+        Refusal::NotRising => 45,
+        Refusal::TooManySteps => 46,
+        Refusal::Trailing => 47,
     }
 }
 

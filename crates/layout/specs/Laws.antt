@@ -1,3 +1,4 @@
+pub mod RefusalNumbers  -- no layout is refused with 31, and no step
 pub mod AcceptedSteps  -- the steps of an accepted layout write frames of 4·L bytes that the part has and the range owns
 pub mod AcceptedLayout  -- what an accepted check tells of the device and of the layout's head
 pub mod ByteFrames  -- the frames of a layout's steps are bytes, since the layout is

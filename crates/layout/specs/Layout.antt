@@ -1,6 +1,6 @@
 -- Reading a whole layout, and checking it for a device and the range that the desk names.
 -- Sources: 01, "Layouts": "A layout: edition 1, device, step count (at most 4096), steps, end"; "Checks: 21, 37, then the layout
--- from front to back"; "The stream that is written": the count of words.
+-- from front to back"; "The stream that is written": the count of words; 02, W2, for the numbers of Trailing and TooManySteps.
 use Prim.Native.Nat.{ℕ, _+_, _*_}
 use mathlib.Core.List.{List, [], _∷_}
 use mathlib.Core.Bool.{Bool, cond}
@@ -21,12 +21,12 @@ use Rattle.layout.specs.StepReading.{stepsAt}
 use Rattle.layout.specs.declared.FrameRange.{FrameRange}
 use Rattle.layout.specs.declared.step.StepList.{StepList}
 
--- "for extra bytes, the first of them"
+-- "for extra bytes, the first of them", 47 by 02
 unfoldable pub endRead : List ℕ → Reading (List Step) → Reading (List Step)
 endRead b (Reading.Read ss next) = cond (ltb next (length b)) (Refused Refusal.Trailing next) (Read ss next)
 endRead b (Reading.Refused c at) = Refused c at
 
--- "step count (at most 4096)"
+-- "step count (at most 4096)", more are 46 by 02
 abbrev pub mostSteps : ℕ
 mostSteps = 4096
 

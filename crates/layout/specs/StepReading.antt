@@ -1,6 +1,7 @@
 -- Reading the steps of a layout's bytes b, for frames of l words, a part of f frames, and the frames that `own` says are owned.
 -- Sources: 01, "Layouts", the paragraphs on the form and on "Checks": "At each number: form, then value"; "The place is where the
--- offending number starts (for kind 1, the first frame; for a zero count, that count; for missing frame bytes, the layout's length".
+-- offending number starts (for kind 1, the first frame; for a zero count, that count; for missing frame bytes, the layout's length"; 02,
+-- W2, whose numbers override 01's for a malformed layout, "at the same places" and in 01's order.
 use Prim.Native.Nat.{ℕ, zero, suc, _+_, _*_}
 use mathlib.Core.List.{List, []}
 use mathlib.Core.Bool.{Bool, cond}
@@ -17,7 +18,7 @@ use Rattle.layout.specs.declared.FrameRange.{FrameRange}
 use Rattle.layout.specs.declared.step.StepAt.{StepAt}
 use Rattle.layout.specs.declared.step.StepAt.the-variants as StepAt
 
--- "each target: not rising (31), 34, 35"; low is the least that rises
+-- 01: "each target: not rising", 45 by 02, then 34, 35; low is the least that rises
 unfoldable pub judgedTarget : ℕ → (ℕ → Bool) → ℕ → Number → Number
 judgedTarget f own low (Number.Value t next) =
     cond (ltb t low) (Number.Refused Refusal.NotRising)
@@ -41,8 +42,8 @@ targetsRead l k body (Reading.Read ts next) = StepAt.MultiFrameWrite k body (bod
 targetsRead l k body (Reading.Refused c at) = StepAt.Refused c at
 
 module _ (l f : ℕ) (own : ℕ → Bool) (b : List ℕ) where
-  -- kind 1, judged when its count is read: "k = 0 (31), 34, 35, then missing bytes (31)"; first frame n, read at offset at; count k,
-  -- read at offset count; its frames begin at offset body
+  -- kind 1, "judged when its count is read": k = 0, 44 by 02, then 34, 35, "then missing bytes", 42 by 02; first frame n, read at
+  -- offset at; count k, read at offset count; its frames begin at offset body
   unfoldable pub judgedWrite : ℕ → ℕ → ℕ → ℕ → ℕ → StepAt
   judgedWrite n at k count body =
       cond (eqb k 0) (StepAt.Refused Refusal.ZeroCount count)
@@ -59,7 +60,7 @@ module _ (l f : ℕ) (own : ℕ → Bool) (b : List ℕ) where
   writeFirst at (Number.Value n count) = writeCount n at count (numberAt b count)
   writeFirst at (Number.Refused c) = StepAt.Refused c at
 
-  -- kind 2: "k = 0 (31), k above F (34), missing bytes; each target"
+  -- kind 2: k = 0, 44 by 02, "k above F (34), missing bytes", 42 by 02; "each target"
   unfoldable pub judgedMulti : ℕ → ℕ → ℕ → StepAt
   judgedMulti k at body =
       cond (eqb k 0) (StepAt.Refused Refusal.ZeroCount at)
@@ -71,7 +72,7 @@ module _ (l f : ℕ) (own : ℕ → Bool) (b : List ℕ) where
   multiCount at (Number.Value k body) = judgedMulti k at body
   multiCount at (Number.Refused c) = StepAt.Refused c at
 
-  -- the step at an offset: where its frames and its targets lie, and the offset after it
+  -- the step at an offset: where its frames and its targets lie, and the offset after it; a kind other than 1 and 2 is 43 by 02
   unfoldable pub stepKind : ℕ → Number → StepAt
   stepKind at (Number.Value kind next) =
       cond (eqb kind 1) (writeFirst next (numberAt b next))
@@ -103,7 +104,7 @@ deskStep d r b at = forDesk stepAt d r b at
 abbrev pub deskSteps : ℕ → FrameRange → List ℕ → ℕ → ℕ → Reading (List Step)
 deskSteps d r b n at = forDesk stepsAt d r b n at
 
--- 01's number of a step, 0 where it was read
+-- the number of a step's refusal, 0 where it was read
 abbrev pub stepRefusal : StepAt → ℕ
 stepRefusal (StepAt.FrameWrite n k body next) = 0
 stepRefusal (StepAt.MultiFrameWrite k body targets next) = 0

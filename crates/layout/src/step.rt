@@ -213,7 +213,7 @@ pub fn step_list(layout: &[u8]) -> StepList
     }
 }
 
-// 01's number of a step, 0 where it was read.
+// The number of a step's refusal, 0 where it was read.
 pub fn step_refusal(step: StepAt) -> u32
     ensures { λ r. ⌜ r ≡ stepRefusal step ⌝ }
 {

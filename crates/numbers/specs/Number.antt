@@ -1,6 +1,7 @@
 -- The number that begins at an offset.
--- Source: 01, "Layouts": "A layout's numbers are groups of seven bits, low group first, top bit set on all but the last byte,
--- shortest form only, at most 4,294,967,295 (so a fifth byte above 15 is a bad form at once)".
+-- Sources: 01, "Layouts": "A layout's numbers are groups of seven bits, low group first, top bit set on all but the last byte,
+-- shortest form only, at most 4,294,967,295 (so a fifth byte above 15 is a bad form at once)"; 02, W2: "A number cut short by the end of
+-- the file is 42", the number of Missing.
 use Prim.Native.Nat.{ℕ, zero, suc, _+_, _-_, _*_}
 use mathlib.Core.List.{List, [], _∷_}
 use mathlib.Core.Bool.{Bool, true, false, cond, not, _&&_}
@@ -30,7 +31,7 @@ groups (suc k) first i (x ∷ xs) = cond (ltb x 128) (lastGroup first x (i + 1))
 abbrev pub numberAt : List ℕ → ℕ → Number
 numberAt b at = groups 4 true at (drop at b)
 
--- 01's number of what was read, 0 where nothing is refused
+-- the number of the refusal, 0 where nothing is refused
 abbrev pub readRefusal : Number → ℕ
 readRefusal (Number.Value v next) = 0
 readRefusal (Number.Refused c) = refusalNumber c
@@ -39,3 +40,8 @@ readRefusal (Number.Refused c) = refusalNumber c
 abbrev pub readValue : Number → ℕ
 readValue (Number.Value v next) = v
 readValue (Number.Refused c) = 0
+
+-- the offset after the number, 0 where it is refused
+abbrev pub readNext : Number → ℕ
+readNext (Number.Value v next) = next
+readNext (Number.Refused c) = 0

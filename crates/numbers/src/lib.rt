@@ -3,7 +3,7 @@ use answers::Refusal;
 use answers::refusal_number;
 ghost use mathlib.Core.Path.{_≡_};
 ghost use Prim.Native.Nat.{_+_, _*_, _^_, _<_};
-ghost use Rattle.numbers.specs.Number.{lastGroup, numberAt, readRefusal, readValue};
+ghost use Rattle.numbers.specs.Number.{lastGroup, numberAt, readRefusal, readValue, readNext};
 ghost use Rattle.numbers.specs.Inner.Groups.{scaled};
 
 // A number that was read, with the offset after it, or why there is none.
@@ -55,7 +55,7 @@ pub fn read_number(bytes: &[u8], at: usize) -> Number
     Number::Refused(Refusal::Missing)
 }
 
-// 01's number of what was read, 0 where nothing is refused.
+// The number of the refusal, 0 where nothing is refused.
 pub fn read_refusal(number: Number) -> u32
     ensures { λ r. ⌜ r ≡ readRefusal number ⌝ }
 {
@@ -71,6 +71,16 @@ pub fn read_value(number: Number) -> u32
 {
     match number {
         Number::Value { value, next: _ } => value,
+        Number::Refused(_) => 0,
+    }
+}
+
+// The offset after the number, 0 where it is refused.
+pub fn read_next(number: Number) -> usize
+    ensures { λ r. ⌜ r ≡ readNext number ⌝ }
+{
+    match number {
+        Number::Value { value: _, next } => next,
         Number::Refused(_) => 0,
     }
 }

@@ -6,6 +6,8 @@ ghost use Rattle.parts.specs.Table.{partOf, partRefusal, idcodeAt, lengthAt, co
 ghost use Rattle.parts.specs.FrameAddress.{addressFields, frameAddress, frameNumber, addressAt, numberRefusal};
 ghost use Rattle.answers.specs.AnswerNumbers.{answerNumber, answerValue};
 ghost use Rattle.layout.specs.Ownership.{range};
+ghost use Rattle.numbers.specs.Number.{numberAt, readRefusal, readValue, readNext};
+ghost use Rattle.layout.specs.StepReading.{deskStep, stepRefusal, stepOffset};
 ghost use Rattle.layout.specs.Layout.{check};
 ghost use Rattle.reference.specs.Applied.{applied};
 ghost use Rattle.compiler.specs.Compiled.{compiled};
@@ -16,6 +18,11 @@ use answers::answer_number;
 use answers::answer_value;
 use answers::refusal_number;
 use layout::FrameRange;
+use layout::step::step_offset;
+use layout::step::step_refusal;
+use numbers::read_next;
+use numbers::read_refusal;
+use numbers::read_value;
 use parts::frame::NumberAnswer;
 use parts::frame::number_refusal;
 
@@ -138,7 +145,7 @@ pub extern "C" fn sw_load(
     answers::load_number(answer)
 }
 
-// Checks a layout: 01's number is returned, the stream's length or the refusal's offset written.
+// Checks a layout: the number of its refusal is returned, the stream's length or the refusal's offset written.
 #[no_mangle]
 pub extern "C" fn sw_check(
     device: u32,
@@ -159,7 +166,42 @@ pub extern "C" fn sw_check(
     answer_number(answer)
 }
 
-// Applies a layout to a memory, which a refusal leaves: 01's number is returned, the value written as by sw_check.
+// The number that begins at an offset of a layout: its refusal is returned; value and the offset after it are written, 0 where refused.
+#[no_mangle]
+pub extern "C" fn sw_read_number(layout: &[u8], at: usize, value: &mut u32, next: &mut u64) -> u32
+    ensures { λ r. ⌜ r ≡ readRefusal (numberAt (now (layout .entry)) at) ⌝ }
+    ensures { λ _. ⌜ now (value .exit) ≡ readValue (numberAt (now (layout .entry)) at) ⌝ }
+    ensures { λ _. ⌜ now (next .exit) ≡ readNext (numberAt (now (layout .entry)) at) ⌝ }
+{
+    let number = numbers::read_number(layout, at);
+    *value = read_value(number);
+    *next = read_next(number) as u64;
+    read_refusal(number)
+}
+
+// The step that begins at an offset of a layout: its refusal is returned, the offset after it or that of the refusal written.
+#[no_mangle]
+pub extern "C" fn sw_read_step(
+    device: u32,
+    first: u32,
+    count: u32,
+    layout: &[u8],
+    at: usize,
+    value: &mut u64,
+) -> u32
+    ensures { λ r. ⌜ r ≡ stepRefusal (deskStep device (range first count) (now (layout .entry)) at) ⌝ }
+    ensures { λ _. ⌜ now (value .exit) ≡ stepOffset (deskStep device (range first count) (now (layout .entry)) at) ⌝ }
+{
+    let range = FrameRange {
+        first: first,
+        count: count,
+    };
+    let step = layout::step::read_step(device, range, layout, at);
+    *value = step_offset(step) as u64;
+    step_refusal(step)
+}
+
+// Applies a layout to a memory, which a refusal leaves: its number is returned, the value written as by sw_check.
 #[no_mangle]
 pub extern "C" fn sw_apply(
     device: u32,
@@ -182,7 +224,7 @@ pub extern "C" fn sw_apply(
     answer_number(answer)
 }
 
-// Compiles a layout into an output, which a refusal leaves: 01's number is returned, the length or the refusal's offset written.
+// Compiles a layout into an output, which a refusal leaves: its number is returned, the length or the refusal's offset written.
 #[no_mangle]
 pub extern "C" fn sw_compile(
     device: u32,

@@ -1,19 +1,21 @@
-//! A layout's stream, or its refusal with the bytes around it.
+//! A layout's stream, or its refusal with what was expected and the bytes around it.
 
 use crate::failure::{Failure, Message};
 use crate::input::Input;
-use crate::part::Part;
-use crate::words;
-use seamwillow_library::{self as library, FrameRange};
+use crate::refusal::{Reading, Wanted};
+use crate::words::{self, hexadecimal};
+use seamwillow_library as library;
 
 /// As many bytes are shown before a refusal's offset, and from it on.
 const SHOWN: usize = 6;
 
-/// The stream of a layout for a part and a range.
-pub fn stream(part: Part, range: FrameRange, layout: &Input) -> Result<Vec<u8>, Failure> {
+/// The stream of a layout for a part and frames that the part has.
+pub fn stream(wanted: Wanted, layout: &Input) -> Result<Vec<u8>, Failure> {
+    let Wanted { part, range, .. } = wanted;
+    let refused = |code, value| refused(wanted, layout, code, value);
     let (code, value) = library::check(part.device, range, &layout.bytes);
     if code != 0 {
-        return Err(refused(layout, code, value));
+        return Err(refused(code, value));
     }
     let mut stream = Vec::new();
     let too_long = || {
@@ -29,31 +31,37 @@ pub fn stream(part: Part, range: FrameRange, layout: &Input) -> Result<Vec<u8>, 
     stream.resize(length, 0);
     match library::compile(part.device, range, &layout.bytes, &mut stream) {
         (0, _) => Ok(stream),
-        (code, value) => Err(refused(layout, code, value)),
+        (code, value) => Err(refused(code, value)),
     }
 }
 
-/// 01's number, where it applies and what stands there.
-fn refused(layout: &Input, code: u32, offset: u64) -> Failure {
+/// The number, where it applies, what was expected and what stands there.
+fn refused(wanted: Wanted, layout: &Input, code: u32, value: u64) -> Failure {
+    let bytes = &layout.bytes;
+    let offset = usize::try_from(value).map_or(bytes.len(), |offset| offset.min(bytes.len()));
+    let reading = Reading {
+        wanted,
+        layout: bytes,
+    };
+    let explained = reading.explained(code, offset);
+    let context = explained.into_iter().chain([around(bytes, offset)]);
     Failure::Refused(Message {
-        offset: Some(offset),
+        offset: Some(value),
         number: Some(code),
-        context: Some(around(&layout.bytes, offset)),
+        context: context.collect(),
         ..Message::of_file(&layout.name, words::meaning(code))
     })
 }
 
 /// The bytes before and from an offset on, with a mark between them.
-fn around(bytes: &[u8], offset: u64) -> String {
-    let middle = usize::try_from(offset).map_or(bytes.len(), |offset| offset.min(bytes.len()));
-    let start = middle.saturating_sub(SHOWN);
-    let end = bytes.len().min(middle.saturating_add(SHOWN));
-    let hex =
-        |bytes: &[u8]| -> String { bytes.iter().map(|byte| format!("{byte:02X} ")).collect() };
-    let after = match middle == bytes.len() {
+fn around(bytes: &[u8], offset: usize) -> String {
+    let start = offset.saturating_sub(SHOWN);
+    let end = bytes.len().min(offset.saturating_add(SHOWN));
+    let after = match offset == bytes.len() {
         true => "end of file".to_string(),
-        false => hex(&bytes[middle..end]),
+        false => hexadecimal(&bytes[offset..end]),
     };
-    let before = hex(&bytes[start..middle]);
-    format!("bytes from offset {start}: {before}>> {}", after.trim_end())
+    let before = hexadecimal(&bytes[start..offset]);
+    let gap = if before.is_empty() { "" } else { " " };
+    format!("bytes from offset {start}: {before}{gap}>> {after}")
 }

@@ -35,12 +35,7 @@ impl fmt::Display for NamedRange {
         if let Some(seat) = &self.seat {
             write!(out, "seat {}, ", words::plain(seat))?;
         }
-        let last = (u64::from(first) + u64::from(count)).saturating_sub(1);
-        match count {
-            0 => write!(out, "no frames"),
-            1 => write!(out, "frame {first}"),
-            _ => write!(out, "frames {first} to {last}"),
-        }
+        write!(out, "{}", words::frame_run(first, count))
     }
 }
 

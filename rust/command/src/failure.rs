@@ -32,8 +32,8 @@ pub struct Message {
     pub offset: Option<u64>,
     pub words: String,
     pub number: Option<u32>,
-    /// A second line, on what stands there.
-    pub context: Option<String>,
+    /// Lines after the first, on what stands there.
+    pub context: Vec<String>,
 }
 
 impl Message {
@@ -59,10 +59,10 @@ impl fmt::Display for Message {
         if let Some(number) = self.number {
             write!(out, " ({number})")?;
         }
-        match &self.context {
-            Some(context) => write!(out, "\n  {}", plain(context)),
-            None => Ok(()),
+        for line in &self.context {
+            write!(out, "\n  {}", plain(line))?;
         }
+        Ok(())
     }
 }
 

@@ -16,6 +16,7 @@ mod json;
 mod output;
 mod part;
 mod picture;
+mod refusal;
 mod runs;
 mod usage;
 mod verdict;

@@ -126,7 +126,8 @@ pub const BUILD: Help = Help {
     head: "build [OPTION..] LAYOUT -o STREAM
 
 Compiles a layout with the proved compiler. The part and the frames are the desk's to name, with
---desk and --seat or with --part and --frames; a refused layout writes nothing.
+--desk and --seat or with --part and --frames. A refused layout writes nothing, and its refusal is
+told as by layout.
 ",
     options: "  -o, --output STREAM   where the stream goes
 ",
@@ -136,8 +137,9 @@ Compiles a layout with the proved compiler. The part and the frames are the desk
 pub const LAYOUT: Help = Help {
     head: "layout [OPTION..] LAYOUT
 
-A layout's steps in words, or its refusal with the offset and the bytes around it. Without --part
-and --desk the part is the one that the layout names; without a range any frame of it is taken.
+A layout's steps in words, or its refusal: in which step, what is expected there and what stands
+there. Without --part and --desk the part is the one that the layout names; without a range any
+frame of it is taken.
 ",
     options: "",
     place: Place::Range,

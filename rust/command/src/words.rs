@@ -31,6 +31,16 @@ pub mod command {
     pub const DESYNC: u32 = 13;
 }
 
+/// Refusals that are asked for by name.
+pub mod refusal {
+    pub const OUTSIDE_PART: u32 = 34;
+    pub const OUTSIDE_RANGE: u32 = 35;
+    pub const NOT_RISING: u32 = 45;
+}
+
+/// The most steps of a layout, which the library judges.
+pub const MOST_STEPS: u32 = 4096;
+
 /// The registers at their addresses (001, Table 1).
 const REGISTERS: [&str; 15] = [
     "CRC", "FAR", "FDRI", "FDRO", "CMD", "CTL", "MASK", "STAT", "LOUT", "COR", "MFWR", "FLR",
@@ -61,7 +71,7 @@ const COMMANDS: [(&str, &str); 14] = [
     ("DESYNC", "the part waits for sync again"),
 ];
 
-/// A number of document 01 or of the C interface, and its meaning.
+/// A number of document 01 or 02 or of the C interface, and its meaning.
 pub struct Number {
     pub number: u32,
     pub kind: Kind,
@@ -101,8 +111,8 @@ const fn refusal(number: u32, meaning: &'static str) -> Number {
     }
 }
 
-/// 01, "Stops and refusals"; 24 is the C interface's own.
-pub const NUMBERS: [Number; 22] = [
+/// 01, "Stops and refusals"; from 41 on 02, W2; 24 is the C interface's own.
+pub const NUMBERS: [Number; 28] = [
     Number {
         number: 0,
         kind: Kind::Done,
@@ -125,13 +135,19 @@ pub const NUMBERS: [Number; 22] = [
     refusal(22, "device record is not consistent"),
     refusal(23, "memory is not as long as the part's"),
     refusal(24, "the device does not wait for sync"),
-    refusal(31, "layout malformed"),
     refusal(32, "layout edition is not 1"),
     refusal(33, "the layout's device number is not the part's"),
     refusal(34, "frame outside the part"),
     refusal(35, "frame outside the range that the desk names"),
     refusal(36, "output shorter than the stream"),
     refusal(37, "range past the part's last frame"),
+    refusal(41, "badly formed number in the layout"),
+    refusal(42, "bytes missing from the layout"),
+    refusal(43, "step of a kind that does not exist"),
+    refusal(44, "step with a count of zero"),
+    refusal(45, "step whose targets do not rise"),
+    refusal(46, "too many steps"),
+    refusal(47, "bytes after the last step"),
 ];
 
 pub fn number(number: u32) -> Option<&'static Number> {
@@ -182,6 +198,22 @@ pub fn counted(count: u64, noun: &str) -> String {
         1 => format!("1 {noun}"),
         _ => format!("{count} {noun}s"),
     }
+}
+
+/// Frames from a first one on: frame 5, frames 5 to 7.
+pub fn frame_run(first: u32, count: u32) -> String {
+    let last = (u64::from(first) + u64::from(count)).saturating_sub(1);
+    match count {
+        0 => "no frames".to_string(),
+        1 => format!("frame {first}"),
+        _ => format!("frames {first} to {last}"),
+    }
+}
+
+/// Bytes as they are shown: 01 7F.
+pub fn hexadecimal(bytes: &[u8]) -> String {
+    let bytes: Vec<String> = bytes.iter().map(|byte| format!("{byte:02X}")).collect();
+    bytes.join(" ")
 }
 
 /// A word of the user's as it is told: one without letters would not be seen.

@@ -41,6 +41,22 @@ extern "C" {
         layout_len: usize,
         value: *mut u64,
     ) -> u32;
+    fn sw_read_number(
+        layout: *const u8,
+        layout_len: usize,
+        at: usize,
+        value: *mut u32,
+        next: *mut u64,
+    ) -> u32;
+    fn sw_read_step(
+        device: u32,
+        first: u32,
+        count: u32,
+        layout: *const u8,
+        layout_len: usize,
+        at: usize,
+        value: *mut u64,
+    ) -> u32;
     fn sw_apply(
         device: u32,
         first: u32,
@@ -206,6 +222,33 @@ pub fn check(device: u32, range: FrameRange, layout: &[u8]) -> (u32, u64) {
             range.count,
             layout.as_ptr(),
             layout.len(),
+            &mut value,
+        )
+    };
+    (code, value)
+}
+
+/// The number at an offset of a layout; the code, the number and the offset after it.
+pub fn read_number(layout: &[u8], at: usize) -> (u32, u32, u64) {
+    let (mut value, mut next) = (JUNK, JUNK_BYTES);
+    // SAFETY: the function reads the layout and writes two numbers, all ours for the call.
+    let code = unsafe { sw_read_number(layout.as_ptr(), layout.len(), at, &mut value, &mut next) };
+    (code, value, next)
+}
+
+/// Judges the step at an offset of a layout; the code, and the offset after the step or of its
+/// refusal.
+pub fn read_step(device: u32, range: FrameRange, layout: &[u8], at: usize) -> (u32, u64) {
+    let mut value = JUNK_BYTES;
+    // SAFETY: the function reads the layout and writes one number, both ours for the call.
+    let code = unsafe {
+        sw_read_step(
+            device,
+            range.first,
+            range.count,
+            layout.as_ptr(),
+            layout.len(),
+            at,
             &mut value,
         )
     };

@@ -5,7 +5,7 @@ use crate::generate::{layouts, memories, records};
 use crate::harness::compiler_sides::CompilerSide;
 use crate::harness::counts::Counts;
 use crate::harness::sides::{End, State};
-use crate::independent::layout::{self, Desk};
+use crate::independent::layout::{self, answer, Desk};
 use crate::independent::loader::Record;
 use crate::independent::names::{field, phase, register};
 use crate::independent::reference::PARTS;
@@ -55,10 +55,11 @@ pub fn hunting(random: &mut Random, device: u32, junk: &[u8]) -> State {
     }
 }
 
-/// What the records and the parts were, so that a generator gone shallow shows.
+/// What the layouts, the records and the parts were, so that a generator gone shallow shows.
 #[derive(Default, Debug)]
 struct Coverage {
     accepted: u32,
+    refused: Counts<u32>,
     devices: Counts<u32>,
     commands: Counts<u32>,
     byte_counts: Counts<u32>,
@@ -75,6 +76,7 @@ impl Coverage {
 
     fn assert_deep(&self) {
         println!("{self:?}");
+        self.refused.assert_reached(41..=47);
         self.devices.assert_reached(0..8);
         self.commands.assert_reached(0..14);
         self.byte_counts.assert_reached(0..4);
@@ -92,6 +94,8 @@ fn check_all(
     let mut coverage = Coverage::default();
     for (index, (mut random, desk, layout)) in cases.enumerate() {
         let Some(stream) = side.compiled(desk, &layout) else {
+            let (code, _) = answer(layout::check(desk, &layout));
+            coverage.refused.note(code);
             continue;
         };
         let start = hunting(&mut random, desk.device, &junk);

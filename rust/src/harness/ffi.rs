@@ -3,6 +3,7 @@
 use crate::independent::layout::Desk;
 use seamwillow_library as library;
 
+pub use library::read_number;
 pub use library::{address_fields, crc, frame_address, frame_number, load, part, power_on};
 pub use library::{AddressFields, Figures, FrameRange};
 
@@ -16,6 +17,11 @@ fn range(desk: Desk) -> FrameRange {
 /// Judges a layout; the code and its value.
 pub fn check(desk: Desk, layout: &[u8]) -> (u32, u64) {
     library::check(desk.device, range(desk), layout)
+}
+
+/// Judges the step at an offset of a layout; the code and its offset.
+pub fn read_step(desk: Desk, layout: &[u8], at: usize) -> (u32, u64) {
+    library::read_step(desk.device, range(desk), layout, at)
 }
 
 /// Does a layout's steps on a memory; the code and its value.

@@ -5,6 +5,7 @@ use crate::compiled;
 use crate::failure::Failure;
 use crate::input::{Input, MOST_BYTES};
 use crate::output;
+use crate::refusal::Wanted;
 use crate::words::{counted, plain};
 
 pub fn run(arguments: &Arguments) -> Result<(), Failure> {
@@ -21,7 +22,12 @@ pub fn run(arguments: &Arguments) -> Result<(), Failure> {
         .range
         .ok_or_else(|| Failure::usage("which frames: name them with --seat or --frames"))?;
     let layout = Input::read_all(file)?;
-    let stream = compiled::stream(part, range.frames, &layout)?;
+    let wanted = Wanted {
+        part,
+        range: range.frames,
+        is_named: true,
+    };
+    let stream = compiled::stream(wanted, &layout)?;
     output::save_binary(target, &stream)?;
     if output::is_standard(target) {
         return Ok(());

@@ -5,6 +5,7 @@ use crate::compiled;
 use crate::failure::Failure;
 use crate::input::Input;
 use crate::part::Part;
+use crate::refusal::Wanted;
 use crate::runs::FrameSet;
 use crate::walk::{Step, Walk};
 use crate::words::{command, counted, register};
@@ -20,8 +21,12 @@ pub fn run(arguments: &Arguments) -> Result<(), Failure> {
         return Err(Failure::usage("which part: name it with --desk or --part"));
     };
     place.judge_range(part, None)?;
-    let range = place.range.map_or(part.whole(), |range| range.frames);
-    let stream = compiled::stream(part, range, &layout)?;
+    let wanted = Wanted {
+        part,
+        range: place.range.map_or(part.whole(), |range| range.frames),
+        is_named: place.part.is_some(),
+    };
+    let stream = compiled::stream(wanted, &layout)?;
     arguments.say(&text(&layout.name, part, &stream))
 }
 

@@ -115,7 +115,7 @@ fn stopped(stream: &Input, stop: &Stop, stored: &FrameSet) -> Message {
     Message {
         offset: Some(stop.offset as u64),
         number: Some(stop.number),
-        context: Some(format!("before it {}", stored_words(stored))),
+        context: vec![format!("before it {}", stored_words(stored))],
         ..Message::of_file(&stream.name, words::meaning(stop.number))
     }
 }

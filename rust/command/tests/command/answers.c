@@ -124,13 +124,42 @@ static void refused_layouts(void) {
     uint64_t value;
     SAME(sw_check(NO_DEVICE, 0, 368, empty, sizeof empty, &value), SW_REFUSED_UNKNOWN_DEVICE);
     SAME(sw_check(XC3S50, 364, 5, empty, sizeof empty, &value), SW_REFUSED_WRONG_RANGE);
-    SAME(sw_check(XC3S50, 0, 368, empty, 0, &value), SW_REFUSED_MALFORMED);
     SAME(sw_check(XC3S50, 0, 368, edition, sizeof edition, &value), SW_REFUSED_WRONG_EDITION);
     SAME(sw_check(XC3S50, 0, 368, device, sizeof device, &value), SW_REFUSED_WRONG_DEVICE);
     SAME(sw_check(XC3S50, 0, 368, past, sizeof past, &value), SW_REFUSED_OUTSIDE_PART);
     SAME(sw_check(XC3S50, 0, 256, frame_256, sizeof frame_256, &value), SW_REFUSED_OUTSIDE_RANGE);
     SAME(sw_compile(XC3S50, 0, 368, empty, sizeof empty, out, sizeof out, &value), SW_REFUSED_SHORT_OUTPUT);
     SAME(value, sizeof out + 1);
+}
+
+static void malformed_layouts(void) {
+    const uint8_t form[] = {0x81, 0, 0, 0}, kind[] = {1, 0, 1, 3}, zero[] = {1, 0, 1, 2, 0};
+    const uint8_t steps[] = {1, 0, 0x81, 0x20}, after[] = {1, 0, 0, 0};
+    uint8_t falling[] = {1, 0, 1, 2, 2, [153] = 7, [154] = 6};
+    uint64_t value;
+    SAME(sw_check(XC3S50, 0, 368, form, sizeof form, &value), SW_REFUSED_BAD_NUMBER);
+    SAME(sw_check(XC3S50, 0, 368, form, 0, &value), SW_REFUSED_MISSING_BYTES);
+    SAME(sw_check(XC3S50, 0, 368, kind, sizeof kind, &value), SW_REFUSED_UNKNOWN_KIND);
+    SAME(sw_check(XC3S50, 0, 368, zero, sizeof zero, &value), SW_REFUSED_ZERO_COUNT);
+    SAME(sw_check(XC3S50, 0, 368, falling, sizeof falling, &value), SW_REFUSED_NOT_RISING);
+    SAME(value, 154);
+    SAME(sw_check(XC3S50, 0, 368, steps, sizeof steps, &value), SW_REFUSED_TOO_MANY_STEPS);
+    SAME(sw_check(XC3S50, 0, 368, after, sizeof after, &value), SW_REFUSED_BYTES_AFTER);
+}
+
+/* A layout read number by number and step by step. */
+static void read_layout(void) {
+    const uint8_t layout[] = {1, 0, 0x80, 1, 2, 0};
+    uint32_t number;
+    uint64_t next, value;
+    SAME(sw_read_number(layout, sizeof layout, 2, &number, &next), 0);
+    SAME(number, 128);
+    SAME(next, 4);
+    SAME(sw_read_step(XC3S50, 0, 368, layout, sizeof layout, next, &value), SW_REFUSED_ZERO_COUNT);
+    SAME(value, 5);
+    SAME(sw_read_number(layout, 3, 2, &number, &next), SW_REFUSED_MISSING_BYTES);
+    SAME(number, 0);
+    SAME(next, 0);
 }
 
 static void refused_records(void) {
@@ -228,6 +257,8 @@ int main(void) {
     stops();
     no_current_frame();
     refused_layouts();
+    malformed_layouts();
+    read_layout();
     refused_records();
     refused_numbers();
     words();

@@ -128,7 +128,7 @@ fn closed_standard_files() {
 }
 
 fn told_of_layout(told: &Told) {
-    let words = "seamwillow: standard input: offset 0: layout malformed (31)\n";
+    let words = "seamwillow: standard input: offset 0: bytes missing from the layout (42)\n";
     assert!(told.status == 1 && told.err.starts_with(words), "{told:?}");
 }
 

@@ -1,12 +1,12 @@
 //! What `build` and `load` write, and how `build` and `layout` refuse: as the independent compiler,
 //! layout reader and loader have it.
 
-use crate::common::{Scratch, Told};
+use crate::common::{refusals, Scratch, Told};
 use seamwillow_tests::generate::random::{self, Random};
 use seamwillow_tests::generate::{guided, layouts};
 use seamwillow_tests::harness::compiler_sides::INDEPENDENT;
 use seamwillow_tests::harness::counts::Counts;
-use seamwillow_tests::independent::layout::{self, answer, Desk};
+use seamwillow_tests::independent::layout::{self, answer, Desk, Refusal};
 use seamwillow_tests::independent::loader::{Phase, Record};
 use seamwillow_tests::independent::reference::PARTS;
 use std::fs;
@@ -14,23 +14,29 @@ use std::fs;
 const BUILDS: u64 = 600;
 const LOADS: u64 = 300;
 
-/// A refusal's status, number and place; 37 has no place in the layout.
-fn assert_refused(told: &Told, desk: Desk, (code, offset): (u32, u64), case: &str) {
+/// A refusal's status, number and place, and what was expected there; 37 has no place in the layout.
+fn assert_refused(told: &Told, desk: Desk, layout: &[u8], refusal: Refusal, case: &str) {
     let Desk {
         device,
         first,
         count,
     } = desk;
-    let place = match code {
+    let (code, offset) = (refusal.cause.number(), refusal.offset);
+    let (place, rest) = match code {
         37 => {
             let name = PARTS[device as usize].name;
-            format!("seamwillow: {first}:{count} of the {name}: ")
+            let place = format!("seamwillow: {first}:{count} of the {name}: ");
+            (place, String::new())
         }
-        _ => format!("seamwillow: some.layout: offset {offset}: "),
+        _ => {
+            let place = format!("seamwillow: some.layout: offset {offset}: ");
+            (place, refusals::lines(desk, layout, refusal))
+        }
     };
-    assert!(told.err.starts_with(&place), "{case}: {told:?}");
-    let line = told.err.lines().next().unwrap_or_default();
+    let (line, lines) = told.err.split_once('\n').unwrap_or_default();
+    assert!(line.starts_with(&place), "{case}: {told:?}");
     assert!(line.ends_with(&format!(" ({code})")), "{case}: {told:?}");
+    assert_eq!(lines, rest, "{case}");
     assert_eq!((told.status, told.out.len()), (1, 0), "{case}");
 }
 
@@ -44,7 +50,8 @@ fn compare_build(scratch: &Scratch, desk: Desk, layout: &[u8], case: &str) -> u3
     let place = format!("--part {device} --frames {first}:{count}");
     let told = scratch.run(&format!("build -q {place} some.layout -o made.bit"));
     let words = scratch.run(&format!("layout {place} some.layout"));
-    let (code, value) = answer(layout::check(desk, layout));
+    let checked = layout::check(desk, layout);
+    let (code, value) = answer(checked);
     let is_made = scratch.path("made.bit").exists();
     assert_eq!(is_made, code == 0, "{case}");
     match code {
@@ -62,8 +69,10 @@ fn compare_build(scratch: &Scratch, desk: Desk, layout: &[u8], case: &str) -> u3
             assert_eq!((told.status, told.err), (2, line), "{case}");
         }
         _ => {
-            assert_refused(&told, desk, (code, value), case);
-            assert_refused(&words, desk, (code, value), case);
+            let refusal = checked.expect_err("it is refused");
+            for told in [&told, &words] {
+                assert_refused(told, desk, layout, refusal, case);
+            }
         }
     }
     code
@@ -81,7 +90,7 @@ fn builds() {
         codes.note(compare_build(&scratch, desk, &layout, &case));
     }
     println!("{codes:?}");
-    for code in [0, 21, 31, 32, 33, 34, 35, 37] {
+    for code in [0, 21, 32, 33, 34, 35, 37, 41, 42, 43, 44, 45, 46, 47] {
         assert!(codes.of(&code) >= 3, "{code}: {codes:?}");
     }
 }

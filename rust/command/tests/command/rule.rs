@@ -42,14 +42,14 @@ const fn allowed(
     }
 }
 
-const A_NUMBER_OF_01: &str = "a number of a refusal, to give it words";
+const A_NUMBER: &str = "a number of a refusal, to give it words";
 const A_TRUTH_VALUE: &str = "both sides are truth values";
 const A_PATTERN: &str = "a pattern that is not an arm's own";
 const OF_WORDS: &str = "bytes are counted in words and frames";
 const OF_SHOWN_TEXT: &str = "a letter of what is read or shown";
 const OF_LENGTHS: &str = "lengths of the drawing";
 
-const ALLOWED: [Allowed; 54] = [
+const ALLOWED: [Allowed; 64] = [
     allowed("arguments.rs", A_LETTER, 2, OF_SHOWN_TEXT),
     allowed("arguments.rs", BYTES, 6, OF_SHOWN_TEXT),
     allowed("commands/check.rs", "&=", 2, A_TRUTH_VALUE),
@@ -65,17 +65,17 @@ const ALLOWED: [Allowed; 54] = [
         "the user's address",
     ),
     allowed("desk.rs", A_LETTER, 3, OF_SHOWN_TEXT),
-    allowed("guess.rs", "33", 1, A_NUMBER_OF_01),
+    allowed("guess.rs", "33", 1, A_NUMBER),
     allowed("guess.rs", "4096", 1, "how much of a file is looked at"),
     allowed("guess.rs", "0x1F", 1, "how a gzip file begins"),
     allowed("guess.rs", "0x8B", 1, "how a gzip file begins"),
     allowed("guess.rs", BYTES, 2, "how zip and xz files begin"),
     allowed("guess.rs", "reverse_bits", 3, "a file is turned round"),
-    allowed("image.rs", "23", 1, A_NUMBER_OF_01),
+    allowed("image.rs", "23", 1, A_NUMBER),
     allowed("input.rs", "1024", 2, "the most that is read"),
     allowed("input.rs", "*", 2, "the most that is read"),
     allowed("json.rs", A_LETTER, 5, OF_SHOWN_TEXT),
-    allowed("part.rs", "37", 1, A_NUMBER_OF_01),
+    allowed("part.rs", "37", 1, A_NUMBER),
     allowed("picture/block.rs", "div_ceil", 1, OF_LENGTHS),
     allowed("picture/markup.rs", A_LETTER, 5, OF_SHOWN_TEXT),
     allowed("picture/markup.rs", "/", 1, OF_LENGTHS),
@@ -99,6 +99,8 @@ const ALLOWED: [Allowed; 54] = [
     allowed("picture/svg.rs", "/", 3, OF_LENGTHS),
     allowed("picture/terminal.rs", A_LETTER, 4, OF_SHOWN_TEXT),
     allowed("picture/terminal.rs", "*", 5, OF_LENGTHS),
+    allowed("refusal.rs", "*", 2, OF_WORDS),
+    allowed("refusal.rs", "|", 1, A_PATTERN),
     allowed("usage.rs", "concat", 1, "the version as cargo has it"),
     allowed(
         "walk.rs",
@@ -118,22 +120,25 @@ const ALLOWED: [Allowed; 54] = [
     allowed("walk.rs", "|", 1, A_PATTERN),
     allowed("words.rs", A_LETTER, 10, OF_SHOWN_TEXT),
     allowed("words.rs", "|", 5, A_PATTERN),
-    allowed("words.rs", "21", 1, A_NUMBER_OF_01),
-    allowed(
-        "words.rs",
-        "22",
-        2,
-        "a refusal, and how many numbers there are",
-    ),
-    allowed("words.rs", "23", 1, A_NUMBER_OF_01),
-    allowed("words.rs", "24", 1, A_NUMBER_OF_01),
-    allowed("words.rs", "31", 1, A_NUMBER_OF_01),
-    allowed("words.rs", "32", 1, A_NUMBER_OF_01),
-    allowed("words.rs", "33", 1, A_NUMBER_OF_01),
-    allowed("words.rs", "34", 1, A_NUMBER_OF_01),
-    allowed("words.rs", "35", 1, A_NUMBER_OF_01),
-    allowed("words.rs", "36", 1, A_NUMBER_OF_01),
-    allowed("words.rs", "37", 1, A_NUMBER_OF_01),
+    allowed("words.rs", "21", 1, A_NUMBER),
+    allowed("words.rs", "22", 1, A_NUMBER),
+    allowed("words.rs", "28", 1, "how many numbers there are"),
+    allowed("words.rs", "23", 1, A_NUMBER),
+    allowed("words.rs", "24", 1, A_NUMBER),
+    allowed("words.rs", "32", 1, A_NUMBER),
+    allowed("words.rs", "33", 1, A_NUMBER),
+    allowed("words.rs", "34", 2, A_NUMBER),
+    allowed("words.rs", "35", 2, A_NUMBER),
+    allowed("words.rs", "36", 1, A_NUMBER),
+    allowed("words.rs", "37", 1, A_NUMBER),
+    allowed("words.rs", "41", 1, A_NUMBER),
+    allowed("words.rs", "42", 1, A_NUMBER),
+    allowed("words.rs", "43", 1, A_NUMBER),
+    allowed("words.rs", "44", 1, A_NUMBER),
+    allowed("words.rs", "45", 2, A_NUMBER),
+    allowed("words.rs", "46", 1, A_NUMBER),
+    allowed("words.rs", "47", 1, A_NUMBER),
+    allowed("words.rs", "4096", 1, "the most steps, to give them words"),
 ];
 
 /// Lengths of a drawing stand here; 01's figures are not among them.

@@ -184,7 +184,8 @@ fn every_number_and_subcommand_is_met() {
     let all: String = cases::all().iter().map(|case| stored(&case.name)).collect();
     let stops = (1..=10).map(|number| format!("stop {number} at offset"));
     let explained = (1..=10).map(|number| format!("STOP {number}: "));
-    let refused = [23, 31, 32, 33, 34, 35, 37].map(|number| format!(" ({number})\n"));
+    let refused = [23, 32, 33, 34, 35, 37].into_iter().chain(41..=47);
+    let refused = refused.map(|number| format!(" ({number})\n"));
     let commands = ["check", "explain", "map", "load", "build", "layout"];
     let tables = ["parts", "frame", "numbers"];
     let commands = commands.into_iter().chain(tables);

@@ -3,16 +3,17 @@
 use super::{Draft, Piece};
 use crate::generate::guided;
 use crate::independent::layout::number::{self, BadForm};
-use crate::independent::layout::Field;
+use crate::independent::layout::{Field, MOST_STEPS};
 
 impl Draft<'_> {
     pub fn damage(&mut self) {
-        match self.random.below(6) {
+        match self.random.below(7) {
             0 => self.change_number(),
-            1 => self.change_form(),
-            2 => self.disorder_targets(),
-            3 => self.disorder_pieces(),
-            4 => self.spoil_bytes(),
+            1 => self.pass_limit(),
+            2 => self.change_form(),
+            3 => self.disorder_targets(),
+            4 => self.disorder_pieces(),
+            5 => self.spoil_bytes(),
             _ => self.move_desk(),
         }
     }
@@ -52,6 +53,24 @@ impl Draft<'_> {
             _ => random.next_u32(),
         };
         u64::from(other)
+    }
+
+    /// A number just past what its field allows.
+    fn pass_limit(&mut self) {
+        let Some((place, field, _)) = self.some_number() else {
+            return;
+        };
+        let frames = u64::from(self.part.frame_count());
+        let value = match field {
+            Field::Edition => self.random.pick(&[0, 2]),
+            Field::Device => 8,
+            Field::StepCount => u64::from(MOST_STEPS) + 1,
+            Field::Kind => self.random.pick(&[0, 3]),
+            Field::FrameCount => 0,
+            Field::TargetCount => self.random.pick(&[0, frames + 1]),
+            Field::FirstFrame | Field::Target => frames,
+        };
+        self.pieces[place] = Piece::Number(field, value);
     }
 
     fn change_form(&mut self) {

@@ -1,5 +1,5 @@
-//! A layout reader and a reference machine written from the scope paper (01) alone, to hold the
-//! proved library against.
+//! A layout reader and a reference machine written from the scope paper (01) and the change
+//! requests (02) alone, to hold the proved library against.
 //!
 //! A layout is read into a list of steps that borrow its frames. The machine is a list of borrowed
 //! frames too: a step puts the layout's in the place of the memory's, and bytes move at the end.
@@ -9,9 +9,11 @@ pub mod number;
 mod reader;
 mod refusal;
 
+use self::number::BadForm;
 use self::reader::Reader;
 use crate::independent::reference::{Part, PARTS};
 
+pub use self::reader::Trail;
 pub use self::refusal::{Cause, Field, Refusal};
 
 /// The steps of the longest layout.
@@ -61,15 +63,45 @@ pub(crate) struct Layout<'a> {
     pub steps: Vec<Step<'a>>,
 }
 
-pub(crate) fn read(desk: Desk, layout: &[u8]) -> Result<Layout<'_>, Refusal> {
+/// The part of a desk whose own numbers are good.
+fn part_of(desk: Desk) -> Result<&'static Part, Refusal> {
     let refused = |cause| Refusal { cause, offset: 0 };
     let part = PARTS.get(desk.device as usize);
     let part = part.ok_or(refused(Cause::UnknownDevice))?;
     if desk.end() > u64::from(part.frame_count()) {
         return Err(refused(Cause::RangeOutsidePart));
     }
-    let steps = Reader::new(desk, part, layout).steps()?;
+    Ok(part)
+}
+
+pub(crate) fn read(desk: Desk, layout: &[u8]) -> Result<Layout<'_>, Refusal> {
+    let part = part_of(desk)?;
+    let steps = Reader::new(desk, part, layout, 0).steps()?;
     Ok(Layout { part, steps })
+}
+
+/// How far a layout is read.
+pub fn trail(desk: Desk, layout: &[u8]) -> Trail {
+    let Ok(part) = part_of(desk) else {
+        return Trail::default();
+    };
+    let mut reader = Reader::new(desk, part, layout, 0);
+    // Where it ends is asked, not why.
+    let _ = reader.steps();
+    reader.into_trail()
+}
+
+/// The offset after the step that begins at an offset; the desk's part is one.
+pub fn step_end(desk: Desk, layout: &[u8], at: usize) -> Result<u64, Refusal> {
+    if at > layout.len() {
+        return Err(Refusal {
+            cause: Cause::BadNumber(Field::Kind, BadForm::CutShort),
+            offset: at,
+        });
+    }
+    let mut reader = Reader::new(desk, &PARTS[desk.device as usize], layout, at);
+    reader.step()?;
+    Ok(reader.offset() as u64)
 }
 
 /// The length of the layout's stream in bytes.

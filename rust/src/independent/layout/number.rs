@@ -5,7 +5,7 @@ const MORE: u8 = 0x80;
 /// The bytes of the longest number.
 const MOST_BYTES: usize = 5;
 
-/// What is wrong with a number's form; the paper does not tell these apart.
+/// Why there is no number; 02 tells the first of these apart from the others.
 #[derive(Clone, Copy, PartialEq, Eq, PartialOrd, Ord, Debug)]
 pub enum BadForm {
     CutShort,

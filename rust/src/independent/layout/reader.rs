@@ -21,6 +21,19 @@ impl Number {
     }
 }
 
+/// How far a layout was read.
+#[derive(Clone, Default, Debug)]
+pub struct Trail {
+    /// The step count, once it was read.
+    pub steps: Option<u64>,
+    /// The step that was begun last, counted from 1; 0 before the first.
+    pub step: u64,
+    /// The numbers of that step, or those before the first step.
+    pub numbers: Vec<(Field, u64)>,
+    /// The offset after all that was read.
+    pub end: usize,
+}
+
 pub struct Reader<'a> {
     desk: Desk,
     part: &'static Part,
@@ -28,19 +41,22 @@ pub struct Reader<'a> {
     length: usize,
     /// The bytes that are still to be read.
     rest: &'a [u8],
+    trail: Trail,
 }
 
 impl<'a> Reader<'a> {
-    pub fn new(desk: Desk, part: &'static Part, layout: &'a [u8]) -> Self {
+    /// A reader of the layout from an offset on.
+    pub fn new(desk: Desk, part: &'static Part, layout: &'a [u8], at: usize) -> Self {
         Self {
             desk,
             part,
             length: layout.len(),
-            rest: layout,
+            rest: &layout[at..],
+            trail: Trail::default(),
         }
     }
 
-    pub fn steps(mut self) -> Result<Vec<Step<'a>>, Refusal> {
+    pub fn steps(&mut self) -> Result<Vec<Step<'a>>, Refusal> {
         let edition = self.number(Field::Edition)?;
         edition.ensure(edition.value == EDITION, Cause::OtherEdition)?;
         let device = self.number(Field::Device)?;
@@ -49,6 +65,7 @@ impl<'a> Reader<'a> {
         let count = self.number(Field::StepCount)?;
         let is_allowed = count.value <= u64::from(MOST_STEPS);
         count.ensure(is_allowed, Cause::TooManySteps)?;
+        self.trail.steps = Some(count.value);
         let mut steps = Vec::new();
         for _ in 0..count.value {
             steps.push(self.step()?);
@@ -62,7 +79,9 @@ impl<'a> Reader<'a> {
         Ok(steps)
     }
 
-    fn step(&mut self) -> Result<Step<'a>, Refusal> {
+    pub fn step(&mut self) -> Result<Step<'a>, Refusal> {
+        self.trail.step += 1;
+        self.trail.numbers.clear();
         let kind = self.number(Field::Kind)?;
         kind.ensure(matches!(kind.value, 1 | 2), Cause::UnknownKind)?;
         match kind.value {
@@ -106,8 +125,14 @@ impl<'a> Reader<'a> {
         Ok(Step::MultiFrameWrite { frame, targets })
     }
 
-    fn offset(&self) -> usize {
+    pub fn offset(&self) -> usize {
         self.length - self.rest.len()
+    }
+
+    /// How far it was read.
+    pub fn into_trail(self) -> Trail {
+        let end = self.offset();
+        Trail { end, ..self.trail }
     }
 
     fn part_frames(&self) -> u64 {
@@ -121,6 +146,7 @@ impl<'a> Reader<'a> {
             offset,
         })?;
         self.rest = &self.rest[bytes..];
+        self.trail.numbers.push((field, u64::from(value)));
         Ok(Number {
             value: u64::from(value),
             offset,

@@ -1,4 +1,4 @@
-//! Refusals of layouts by their causes, which are more than the paper's numbers, so that the tests
+//! Refusals of layouts by their causes, which are more than the papers' numbers, so that the tests
 //! can tell what they reached.
 
 use super::number::BadForm;
@@ -52,29 +52,27 @@ pub enum Cause {
     WrongMemory,
 }
 
-/// The paper's numbers, but for that of badly formed numbers.
+/// The numbers of 01 and, from 41 on, of 02, but for those of bytes that are no number.
 const NUMBERS: [(Cause, u32); 18] = [
     (Cause::UnknownDevice, 21),
     (Cause::RangeOutsidePart, 37),
     (Cause::OtherEdition, 32),
     (Cause::OtherDevice, 33),
-    (Cause::TooManySteps, MALFORMED),
-    (Cause::UnknownKind, MALFORMED),
-    (Cause::NoFrames, MALFORMED),
+    (Cause::TooManySteps, 46),
+    (Cause::UnknownKind, 43),
+    (Cause::NoFrames, 44),
     (Cause::FramesOutsidePart, 34),
     (Cause::FramesOutsideRange, 35),
-    (Cause::FramesMissing, MALFORMED),
-    (Cause::NoTargets, MALFORMED),
+    (Cause::FramesMissing, 42),
+    (Cause::NoTargets, 44),
     (Cause::TooManyTargets, 34),
-    (Cause::FrameMissing, MALFORMED),
-    (Cause::TargetNotRising, MALFORMED),
+    (Cause::FrameMissing, 42),
+    (Cause::TargetNotRising, 45),
     (Cause::TargetOutsidePart, 34),
     (Cause::TargetOutsideRange, 35),
-    (Cause::BytesAfterEnd, MALFORMED),
+    (Cause::BytesAfterEnd, 47),
     (Cause::WrongMemory, 23),
 ];
-
-const MALFORMED: u32 = 31;
 
 impl Cause {
     pub fn all() -> impl Iterator<Item = Self> {
@@ -85,8 +83,11 @@ impl Cause {
     }
 
     pub fn number(self) -> u32 {
-        if let Self::BadNumber(..) = self {
-            return MALFORMED;
+        if let Self::BadNumber(_, form) = self {
+            return match form {
+                BadForm::TooLarge | BadForm::NotShortest => 41,
+                BadForm::CutShort => 42,
+            };
         }
         let mut rows = NUMBERS.into_iter();
         let row = rows.find(|&(cause, _)| cause == self);

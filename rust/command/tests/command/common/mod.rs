@@ -2,6 +2,7 @@
 
 pub mod expected;
 pub mod json;
+pub mod refusals;
 pub mod streams;
 
 use seamwillow_tests::harness::tools::has;

@@ -85,11 +85,11 @@ fn control_characters_in_arguments_are_not_told() {
         told_plainly(&scratch, &format!("{BUILD} good.layout -o WORD"), word, 0);
         let seat = "check --desk good.desk --seat left good.bit";
         told_plainly(&scratch, seat, word, 2);
-        // What is refused keeps its second line.
+        // What is refused keeps its other lines.
         scratch.write(word, &[1, 0, 9]);
         let refused = format!("{BUILD} WORD -o made.bit");
         let told = told_plainly(&scratch, &refused, word, 1);
-        assert_eq!(told.err.lines().count(), 2, "{told:?}");
+        assert_eq!(told.err.lines().count(), 3, "{told:?}");
     }
 }
 
@@ -128,7 +128,8 @@ fn told_plainly(scratch: &Scratch, line: &str, word: &str, status: i32) -> Told 
     let is_shown = |letter: char| letter == '\n' || !(letter.is_control() || letter == '\u{202E}');
     assert!(text.chars().all(is_shown), "{line}: {told:?}");
     assert!(text.contains('\u{FFFD}'), "{line}: {told:?}");
-    let most = if status == 1 { 2 } else { 1 };
+    // A refused layout is told in three lines.
+    let most = if status == 1 { 3 } else { 1 };
     assert!(text.lines().count() <= most, "{line}: {told:?}");
     told
 }

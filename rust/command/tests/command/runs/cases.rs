@@ -452,32 +452,64 @@ const BUILD: Table = &[
         "build --part 0 --frames 0:368 missing.layout -o made.bit",
     ),
     (
-        "build-31-empty",
+        "build-42-empty",
         "build --part 0 --frames 0:368 empty.bit -o made.bit",
     ),
     (
-        "build-31-form",
+        "build-41",
         "build --part 0 --frames 0:368 long-number.layout -o made.bit",
     ),
     (
-        "build-31-missing",
+        "build-42-data",
         "build --part 0 --frames 0:368 short.layout -o made.bit",
     ),
     (
-        "build-31-extra",
+        "build-47",
         "build --part 0 --frames 0:368 extra.layout -o made.bit",
     ),
     (
-        "build-31-kind",
+        "build-43",
         "build --part 0 --frames 0:368 kind3.layout -o made.bit",
     ),
     (
-        "build-31-rising",
+        "build-45",
         "build --part 0 --frames 0:368 falling.layout -o made.bit",
     ),
     (
-        "build-31-none",
+        "build-44",
         "build --part 0 --frames 0:368 no-count.layout -o made.bit",
+    ),
+    (
+        "build-41-large",
+        "build --part 0 --frames 0:368 large-number.layout -o made.bit",
+    ),
+    (
+        "build-42-number",
+        "build --part 0 --frames 0:368 cut-number.layout -o made.bit",
+    ),
+    (
+        "build-42-target",
+        "build --part 0 --frames 0:368 no-target.layout -o made.bit",
+    ),
+    (
+        "build-43-second",
+        "build --part 0 --frames 0:368 second-kind3.layout -o made.bit",
+    ),
+    (
+        "build-44-targets",
+        "build --part 0 --frames 0:368 no-targets.layout -o made.bit",
+    ),
+    (
+        "build-46",
+        "build --part 0 --frames 0:368 many-steps.layout -o made.bit",
+    ),
+    (
+        "build-34-target",
+        "build --part 0 --frames 0:368 past-target.layout -o made.bit",
+    ),
+    (
+        "build-34-targets",
+        "build --part 0 --frames 0:368 past-targets.layout -o made.bit",
     ),
     (
         "build-32",
@@ -525,8 +557,10 @@ const LAYOUT: Table = &[
     ("layout-quiet", "layout -q good.layout"),
     ("layout-no-file", "layout"),
     ("layout-missing", "layout missing.layout"),
-    ("layout-31", "layout kind3.layout"),
-    ("layout-31-empty", "layout empty.bit"),
+    ("layout-43", "layout kind3.layout"),
+    ("layout-42-empty", "layout empty.bit"),
+    ("layout-45", "layout --frames 0:4 falling.layout"),
+    ("layout-47", "layout extra.layout"),
     ("layout-32", "layout edition2.layout"),
     ("layout-33", "layout --part XC3S50 other-part.layout"),
     ("layout-33-unknown", "layout device9.layout"),
@@ -561,6 +595,7 @@ const TABLES: Table = &[
     ("numbers-refusal", "numbers 36"),
     ("numbers-done", "numbers 0"),
     ("numbers-unknown", "numbers 11"),
+    ("numbers-31", "numbers 31"),
     ("numbers-word", "numbers eight"),
     ("numbers-plus", "numbers +8"),
     ("numbers-empty", "numbers ''"),

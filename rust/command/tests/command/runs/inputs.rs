@@ -210,16 +210,31 @@ fn layouts() -> Named {
 fn refused_layouts() -> Named {
     let one = |step: Vec<u8>| layout(0, &[step]);
     let good = one(frame_write(0, 3, 2));
+    let to_two = multi_frame_write(0, &[3, 4]);
     vec![
         ("long-number.layout", vec![0x81, 0, 0, 0]),
+        (
+            "large-number.layout",
+            vec![1, 0, 0xFF, 0xFF, 0xFF, 0xFF, 0x10, 0],
+        ),
+        ("cut-number.layout", vec![1, 0, 0xFF]),
+        ("many-steps.layout", vec![1, 0, 0x81, 0x20]),
         ("edition2.layout", vec![2, 0, 0]),
         ("device9.layout", vec![1, 9, 0]),
         ("short.layout", good[..100].to_vec()),
         ("extra.layout", [&good[..], b"\x01\x02"].concat()),
         ("kind3.layout", one(vec![3, 0, 1])),
+        (
+            "second-kind3.layout",
+            layout(0, &[frame_write(0, 3, 2), vec![3, 0, 1]]),
+        ),
         ("no-count.layout", one(vec![1, 3, 0])),
+        ("no-targets.layout", one(multi_frame_write(0, &[]))),
+        ("no-target.layout", one(to_two[..to_two.len() - 1].to_vec())),
         ("falling.layout", one(multi_frame_write(0, &[3, 1]))),
         ("past.layout", one(frame_write(0, 367, 2))),
+        ("past-target.layout", one(multi_frame_write(0, &[3, 368]))),
+        ("past-targets.layout", vec![1, 0, 1, 2, 0xF1, 2]),
         ("past-range.layout", vec![1, 0, 1, 1, 0x80, 2, 1]),
     ]
 }
