@@ -56,7 +56,7 @@ fn numbers_at_every_offset() {
     lengths.assert_reached(1..6);
 }
 
-/// The step at an offset on both sides; the code.
+/// The step at an offset on both sides; the answer.
 fn compare_step(desk: Desk, layout: &[u8], at: usize, case: &str) -> (u32, u64) {
     let told = ffi::read_step(desk, layout, at);
     let wanted = answer(step_end(desk, layout, at));

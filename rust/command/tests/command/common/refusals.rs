@@ -1,8 +1,9 @@
 //! How `build` and `layout` must tell a refused layout, from what the independent reader says of it.
 
-use seamwillow_tests::independent::layout::number::BadForm;
-use seamwillow_tests::independent::layout::{number, MOST_STEPS};
-use seamwillow_tests::independent::layout::{trail, Cause, Desk, Field, Refusal, Trail};
+use seamwillow_tests::independent::layout::number::{self, BadForm};
+use seamwillow_tests::independent::layout::{
+    trail, Cause, Desk, Field, Refusal, Trail, MOST_STEPS,
+};
 use seamwillow_tests::independent::reference::{Part, PARTS};
 
 /// As many bytes are shown before the offset, and from it on.
@@ -187,8 +188,7 @@ impl Refused<'_> {
 }
 
 fn hex(bytes: &[u8]) -> String {
-    let mut text = bytes.iter().map(|byte| format!("{byte:02X} "));
-    let text = text.by_ref().collect::<String>();
+    let text: String = bytes.iter().map(|byte| format!("{byte:02X} ")).collect();
     text.trim_end().to_string()
 }
 
