@@ -1,10 +1,12 @@
 // The table of stops and refusals of 01 and 02, with the map to its numbers, and the answers that are made of its rows.
+#![tactic(auto)]
+
 ghost use Rattle.std.specs.Prelude.{◌≡◌};
 ghost use Rattle.answers.specs.StopsAndRefusals.{stop_number, refusal_number};
 ghost use Rattle.answers.specs.AnswerNumbers.{answer_number, answer_value, load_number};
 
 // Why a load stopped: 01's stops 1 to 10 in their order.
-#[derive(Drop)]
+#[derive(Clone, Copy)]
 pub enum Stop {
     BadHeader,
     BadRegister,
@@ -20,7 +22,7 @@ pub enum Stop {
 
 // Why a call is refused: the refusals of 01 and 02 in the order of their numbers, and the C interface's 24.
 // Missing: bytes are missing, or a number is cut short. Trailing: bytes follow the last step.
-#[derive(Drop)]
+#[derive(Clone, Copy)]
 pub enum Refusal {
     UnknownDevice,
     Inconsistent,
@@ -42,14 +44,14 @@ pub enum Refusal {
 }
 
 // Done with a value, or refused with what the refusal tells: an offset, the length needed, or 0.
-#[derive(Drop)]
+#[derive(Clone, Copy)]
 pub enum Answer {
     Done(u64),
     Refused { refusal: Refusal, told: u64 },
 }
 
 // What power-on or a load answers. Neither tells a value: the bytes taken stand beside the answer.
-#[derive(Drop)]
+#[derive(Clone, Copy)]
 pub enum LoadAnswer {
     Done,
     Stopped(Stop),

@@ -5,14 +5,14 @@ ghost use Rattle.build.specs.Inner.Decimal.{parsed};
 use layout::FrameRange;
 
 // A number that was given, or text that is none.
-#[derive(Drop)]
+#[derive(Clone, Copy)]
 pub enum Parsed {
     Number(u32),
     Malformed,
 }
 
 // What the arguments ask. Malformed: with the place of the first argument that is no number.
-#[derive(Drop)]
+#[derive(Clone, Copy)]
 pub enum Request {
     Compile { device: u32, range: FrameRange },
     WrongCount,

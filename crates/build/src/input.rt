@@ -4,7 +4,7 @@ ghost use Rattle.build.specs.Inner.Input.{Within};
 use libc::STDIN_FILENO;
 
 // What was read. Whole: the bytes up to the end of the input. Full: the buffer is full.
-#[derive(Drop)]
+#[derive(Clone, Copy)]
 pub enum Input {
     Whole(usize),
     Full,

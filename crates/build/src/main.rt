@@ -1,4 +1,6 @@
 // Compiles the layout on standard input for a device and a range, which the arguments name, into the stream on standard output.
+#![tactic(auto)]
+
 mod argument; // argument.rt: the numbers of the arguments
 mod input; // input.rt: standard input into a buffer
 mod tell; // tell.rt: lines to standard error

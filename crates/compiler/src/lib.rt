@@ -1,4 +1,6 @@
 // The compiler: a layout into the stream that does its steps.
+#![tactic(auto)]
+
 mod packet; // packet.rt: words and packets into the output
 mod frames; // frames.rt: frame data into the output
 mod emit; // emit.rt: the packets of steps, and the whole stream

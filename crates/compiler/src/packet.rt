@@ -12,7 +12,7 @@ use registers::command::RCRC;
 use registers::{Register, address_of};
 
 // Where the next word goes, and the CRC so far.
-#[derive(Drop)]
+#[derive(Clone, Copy)]
 pub struct Cursor {
     pub at: usize,
     pub crc: u32,

@@ -1,11 +1,12 @@
 // The configuration logic as a control machine: phase and control state in, a word or a byte, the next ones and an event out.
 // It holds no frame words and no memory; the loader applies the events.
+#![tactic(auto)]
 
 use answers::Stop;
 use registers::Register;
 
 // Zero to three bytes: the sync window while hunting, the partial word after it.
-#[derive(Drop)]
+#[derive(Clone, Copy)]
 pub enum PartialWord {
     Zero,
     One(u8),
@@ -15,7 +16,7 @@ pub enum PartialWord {
 
 // A header word: nothing to do (padding, no operation), a type 1 write to an address, a type 2 write to the open register, a
 // read, or a header of no allowed kind.
-#[derive(Drop)]
+#[derive(Clone, Copy)]
 pub enum PacketHeader {
     Idle,
     Write { address: u32, count: u32 },
@@ -25,14 +26,14 @@ pub enum PacketHeader {
 }
 
 // The register that a type 2 header would use, if the word before was a type 1 write of count 0.
-#[derive(Drop)]
+#[derive(Clone, Copy)]
 pub enum Open {
     Closed,
     After(Register),
 }
 
 // The phases, each with what it must know. filled counts the words of the frame that an FDRI packet has filled.
-#[derive(Drop)]
+#[derive(Clone, Copy)]
 pub enum Phase {
     Hunting(PartialWord),
     Header(Open),
@@ -46,14 +47,14 @@ pub enum Phase {
 }
 
 // The frame that the next store goes to.
-#[derive(Drop)]
+#[derive(Clone, Copy)]
 pub enum Current {
     Frame(u32),
     NoFrame,
 }
 
 // The CRC register, and the last word that was written to each other register.
-#[derive(Drop)]
+#[derive(Clone, Copy)]
 pub struct Registers {
     pub crc: u32,
     pub far: u32,
@@ -69,7 +70,7 @@ pub struct Registers {
 }
 
 // check_passed: a check has passed since START or power-on. buffer_valid: a frame is in the frame buffer.
-#[derive(Drop)]
+#[derive(Clone, Copy)]
 pub struct Flags {
     pub idcode_ok: bool,
     pub flr_ok: bool,
@@ -81,7 +82,7 @@ pub struct Flags {
 }
 
 // The record but for the phase and the frame buffer.
-#[derive(Drop)]
+#[derive(Clone, Copy)]
 pub struct Control {
     pub device: u32,
     pub registers: Registers,
@@ -91,7 +92,7 @@ pub struct Control {
 }
 
 // What a word asks of the frame buffer and the memory: keep the word at a place of the buffer, store the buffer at a frame.
-#[derive(Drop)]
+#[derive(Clone, Copy)]
 pub enum Event {
     Nothing,
     Keep { at: u32, word: u32 },
@@ -100,7 +101,7 @@ pub enum Event {
 }
 
 // The machine after a word or a byte, and the event.
-#[derive(Drop)]
+#[derive(Clone, Copy)]
 pub struct Transition {
     pub phase: Phase,
     pub control: Control,

@@ -1,4 +1,6 @@
 // The CRC register of the configuration logic: feed a data word, and the word that passes the check.
+#![tactic(auto)]
+
 ghost use Rattle.std.specs.Prelude.{◌≡◌, ◌<◌};
 ghost use Rattle.crc16.specs.CrcRegister.{feed, check_word};
 ghost use Rattle.crc16.specs.NibbleTable.{entries, looked_up, feed_with};

@@ -1,4 +1,6 @@
 // The layout reader: checks a layout for a device and the frames that the desk names.
+#![tactic(auto)]
+
 mod head; // head.rt: the check of a layout at an offset
 mod range; // range.rt: which frames are owned
 pub mod reader; // reader.rt: the layout and the offset reached, as one value
@@ -12,7 +14,7 @@ use crate::reader::LayoutReader;
 use answers::Answer;
 
 // The frames that the desk names: 01's seat.
-#[derive(Drop)]
+#[derive(Clone, Copy)]
 pub struct FrameRange {
     pub first: u32,
     pub count: u32,

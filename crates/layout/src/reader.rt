@@ -7,7 +7,7 @@ use crate::head::check_at;
 use crate::step::{StepAt, step_at};
 use answers::Answer;
 
-#[derive(Drop)]
+#[derive(Clone, Copy)]
 pub struct LayoutReader<'a> {
     pub layout: &'a [u8],
     pub at: usize,

@@ -15,7 +15,7 @@ use numbers::{Number, read_number};
 use parts::table::{count_at, length_at};
 
 // A step that was read: where its frames and its targets lie, and the offset after it.
-#[derive(Drop)]
+#[derive(Clone, Copy)]
 pub enum StepAt {
     FrameWrite {
         first: u32,
@@ -36,7 +36,7 @@ pub enum StepAt {
 }
 
 // The steps of a layout: how many, and the offset of the first.
-#[derive(Drop)]
+#[derive(Clone, Copy)]
 pub struct StepList {
     pub count: u32,
     pub start: usize,

@@ -1,5 +1,7 @@
 // Prints 01's worked examples of layouts, a way to each refusal, and what single numbers and steps answer, as the proved library
 // answers them.
+#![tactic(auto)]
+
 use answers::{answer_number, answer_value};
 use layout::step::{read_step, step_offset, step_refusal};
 use layout::{FrameRange, check};

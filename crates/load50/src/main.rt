@@ -1,4 +1,6 @@
 // Loads standard input into a freshly powered XC3S50 and prints what came of it, in 01's four lines.
+#![tactic(auto)]
+
 use answers::LoadAnswer;
 use config::Phase;
 use libc::{STDERR_FILENO, STDIN_FILENO, STDOUT_FILENO};
@@ -8,7 +10,7 @@ use record::Record;
 const PIECES: u64 = 4294967296;
 
 // The record after the pieces read so far. failed: a read failed, and the input may go on.
-#[derive(Drop)]
+#[derive(Clone, Copy)]
 struct Session {
     record: Record,
     answer: LoadAnswer,

@@ -8,7 +8,7 @@ use record::FrameBuffer;
 use words::word_at;
 
 // The CRC after the words, and the last of them.
-#[derive(Drop)]
+#[derive(Clone, Copy)]
 pub struct Filled {
     pub crc: u32,
     pub last: u32,

@@ -1,4 +1,6 @@
 // Load: the control machine's events applied to the frame buffer and to the memory.
+#![tactic(auto)]
+
 mod fill; // fill.rt: words of an FDRI packet that only fill the buffer
 mod store; // store.rt: the buffer and the memory
 mod turn; // turn.rt: the next bytes of a piece
@@ -12,7 +14,7 @@ use config::{Phase, is_stopped};
 use record::Record;
 
 // The record after a load, the answer, and the bytes taken from this piece.
-#[derive(Drop)]
+#[derive(Clone, Copy)]
 pub struct Loaded {
     pub record: Record,
     pub answer: LoadAnswer,
@@ -20,7 +22,7 @@ pub struct Loaded {
 }
 
 // The record after the bytes of a piece.
-#[derive(Drop)]
+#[derive(Clone, Copy)]
 struct Progress {
     record: Record,
     taken: u64,

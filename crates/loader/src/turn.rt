@@ -15,7 +15,7 @@ use registers::Register;
 use words::word_at;
 
 // The machine after some bytes, and how many.
-#[derive(Drop)]
+#[derive(Clone, Copy)]
 pub struct Turned {
     pub phase: Phase,
     pub control: Control,

@@ -1,4 +1,6 @@
 // The numbers of a layout: groups of seven bits, low group first, in the shortest form.
+#![tactic(auto)]
+
 ghost use Rattle.std.specs.Prelude.{◌≡◌, ◌+◌, ◌*◌, ◌^◌, ◌<◌};
 ghost use Rattle.numbers.specs.Number.{last_group, number_at, read_refusal, read_value, read_next};
 ghost use Rattle.numbers.specs.Inner.Groups.{scaled};
@@ -6,7 +8,7 @@ ghost use Rattle.numbers.specs.Inner.Groups.{scaled};
 use answers::{Refusal, refusal_number};
 
 // A number that was read, with the offset after it, or why there is none.
-#[derive(Drop)]
+#[derive(Clone, Copy)]
 pub enum Number {
     Value { value: u32, next: usize },
     Refused(Refusal),

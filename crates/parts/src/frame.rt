@@ -10,7 +10,7 @@ use crate::table::{Part, PartAnswer, part_of};
 use answers::{Answer, Refusal, answer_value, refusal_number};
 
 // The frame number of a frame address.
-#[derive(Drop)]
+#[derive(Clone, Copy)]
 pub enum NumberAnswer {
     Number(u32),
     NoFrame,
@@ -18,7 +18,7 @@ pub enum NumberAnswer {
 }
 
 // The fields of a frame address.
-#[derive(Drop)]
+#[derive(Clone, Copy)]
 pub struct AddressFields {
     pub block: u32,
     pub major: u32,
@@ -26,7 +26,7 @@ pub struct AddressFields {
 }
 
 // A run of neighbouring columns that have the same number of minors, from a major on.
-#[derive(Drop)]
+#[derive(Clone, Copy)]
 struct Run {
     block: u32,
     major: u32,
@@ -35,7 +35,7 @@ struct Run {
 }
 
 // A search of a run: the address found, or the number that is left to look for past it.
-#[derive(Drop)]
+#[derive(Clone, Copy)]
 enum Search {
     Found(u32),
     Past(u32),

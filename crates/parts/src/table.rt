@@ -6,7 +6,7 @@ ghost use Rattle.parts.specs.Laws.PrintedFigures.{Limits};
 use answers::{Refusal, refusal_number};
 
 // What tells one part from another: R, C and B of 01 are rows, columns and ram_columns.
-#[derive(Drop)]
+#[derive(Clone, Copy)]
 pub struct Part {
     pub idcode: u32,
     pub rows: u32,
@@ -15,7 +15,7 @@ pub struct Part {
 }
 
 // The part that a device number names.
-#[derive(Drop)]
+#[derive(Clone, Copy)]
 pub enum PartAnswer {
     Known(Part),
     Refused(Refusal),

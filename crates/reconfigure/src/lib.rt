@@ -1,4 +1,6 @@
 // Compile, then load: what a check of a layout against a desk's part calls.
+#![tactic(auto)]
+
 ghost use Rattle.std.specs.Prelude.{◌≡◌};
 ghost use Rattle.answers.specs.declared.Answer.TheVariants as Answer;
 ghost use Rattle.reconfigure.specs.Reconfigured.{reconfigured};
@@ -10,7 +12,7 @@ use layout::FrameRange;
 use record::Record;
 
 // The record afterwards, and the answer.
-#[derive(Drop)]
+#[derive(Clone, Copy)]
 pub struct Reconfigured {
     pub record: Record,
     pub answer: Answer,

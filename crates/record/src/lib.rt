@@ -1,4 +1,6 @@
 // The device record: when it is consistent, and power-on.
+#![tactic(auto)]
+
 mod checks; // checks.rt: the items of consistency that go by cases
 mod power; // power.rt: the record and the memory of a part that was just powered
 
@@ -15,7 +17,7 @@ use registers::command;
 pub type FrameBuffer = [u32; 213];
 
 // The device record.
-#[derive(Drop)]
+#[derive(Clone, Copy)]
 pub struct Record {
     pub phase: Phase,
     pub control: Control,
@@ -23,7 +25,7 @@ pub struct Record {
 }
 
 // The record after power-on.
-#[derive(Drop)]
+#[derive(Clone, Copy)]
 pub struct PoweredOn {
     pub record: Record,
     pub answer: LoadAnswer,

@@ -1,4 +1,6 @@
 // A device record as its image of 948 bytes, and back (docs/C-INTERFACE.md, "The record's image, edition 1").
+#![tactic(auto)]
+
 pub mod decode;
 pub mod encode;
 mod head;

@@ -1,4 +1,6 @@
 // The reference machine as code: does the steps of an accepted layout on a lent memory.
+#![tactic(auto)]
+
 mod copy; // copy.rt: frames of the layout's bytes into the memory
 mod steps; // steps.rt: the list of steps
 

@@ -1,8 +1,10 @@
 // The registers of the configuration logic by name and by address, and the commands by name.
+#![tactic(auto)]
+
 pub mod command; // command.rt: the codes of the commands
 
 // The registers that can be written (001, Table 1).
-#[derive(Drop)]
+#[derive(Clone, Copy)]
 pub enum Register {
     Crc,
     Far,
@@ -18,7 +20,7 @@ pub enum Register {
 }
 
 // What stands at an address: a register that can be written, or none.
-#[derive(Drop)]
+#[derive(Clone, Copy)]
 pub enum RegisterAnswer {
     Writable(Register),
     NotWritable,

@@ -1,4 +1,6 @@
 // The C interface: thin exported functions over the proved library. include/seamwillow.h declares them for C.
+#![tactic(auto)]
+
 ghost use Rattle.std.specs.Prelude.{◌≡◌, ◌%◌};
 ghost use Rattle.crc16.specs.CrcRegister.{feed};
 ghost use Rattle.parts.specs.Table.{part_of, part_refusal, idcode_at, length_at, count_at, memory_at};

@@ -1,1 +1,2 @@
 // The stream that changes a part: its definition, for the compiler and for the theorem over the loader.
+#![tactic(auto)]

@@ -1,4 +1,6 @@
 // Prints 01's worked examples for the parts and the CRC, as the proved library answers them.
+#![tactic(auto)]
+
 use answers::{Answer, answer_number};
 use libc::STDOUT_FILENO;
 use parts::frame::NumberAnswer;

@@ -1,4 +1,6 @@
 // Words of 32 bits in bytes, high byte first: read, written, compared.
+#![tactic(auto)]
+
 ghost use Rattle.std.specs.Prelude.{◌≡◌, [], ◌∷◌, ◌+◌, ◌*◌, ◌≤◌, length, get_or, take, set};
 ghost use Rattle.words.specs.WordsInBytes.{word_of, word_at, put_words, has_words};
 
