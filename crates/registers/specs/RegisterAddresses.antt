@@ -2,9 +2,7 @@
 -- Sources: 001, Table 1; 01, "Words and packets", the paragraph "Registers".
 use Rattle.std.specs.Prelude.{ℕ, Bool, cond, eqb}
 use Rattle.registers.specs.declared.Register.{Register}
-use Rattle.registers.specs.declared.Register.TheVariants as Register
 use Rattle.registers.specs.declared.RegisterAnswer.{RegisterAnswer}
-use Rattle.registers.specs.declared.RegisterAnswer.TheVariants as RegisterAnswer
 
 -- 001, Table 1: the binary address of a register
 unfoldable pub address_of : Register → ℕ

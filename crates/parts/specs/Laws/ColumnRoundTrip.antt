@@ -35,7 +35,7 @@ above from (c ∷ cs) n a o e =
           let at : address c.block c.major n ≡ a = cc (address_here c cs n h) in
           rw (← at) (rw (block_address c.block c.major n o.1 o.2 (omega arith), major_address c.block c.major n o.1 o.2 (omega arith)) o.0)
       | no h ↦
-          let later : suc (place c.block c.major) ≤ place (block a) (major a) = above _ cs (n - c.minors) a o.4 (sym (address_later c cs n (omega arith)) ∙ e) in
+          let later : suc (place c.block c.major) ≤ place (block a) (major a) = above (suc (place c.block c.major)) cs (n - c.minors) a o.4 (sym (address_later c cs n (omega arith)) ∙ e) in
           omega arith
     ]
 
@@ -53,9 +53,9 @@ number_of_address from first (c ∷ cs) n a o e =
           rw (← at) (rw (block_address c.block c.major n o.1 o.2 (omega arith), major_address c.block c.major n o.1 o.2 (omega arith), minor_address c.block c.major n o.1 o.2 (omega arith)) (number_here c cs first c.block c.major n (frame_names c n h)))
       | no h ↦
           let e' : address_in cs (n - c.minors) ≡ Answer.Done a = sym (address_later c cs n (omega arith)) ∙ e in
-          let later : suc (place c.block c.major) ≤ place (block a) (major a) = above _ cs (n - c.minors) a o.4 e' in
+          let later : suc (place c.block c.major) ≤ place (block a) (major a) = above (suc (place c.block c.major)) cs (n - c.minors) a o.4 e' in
           number_later c cs first (block a) (major a) (minor a) (fails _ (λ t. let named = names_frame c (block a) (major a) (minor a) t in omega arith))
-          ∙ number_of_address _ (first + c.minors) cs (n - c.minors) a o.4 e'
+          ∙ number_of_address (suc (place c.block c.major)) (first + c.minors) cs (n - c.minors) a o.4 e'
           ∙ ap NumberAnswer.Number (omega arith)
     ]
 

@@ -4,7 +4,6 @@ use Rattle.std.specs.Prelude.{◌≡◌, refl, ◌≤◌}
 use Rattle.std.proofs.Common.{arith}
 use Rattle.registers.specs.RegisterAddresses.{address_of, register_at}
 use Rattle.registers.specs.declared.Register.{Register}
-use Rattle.registers.specs.declared.Register.TheVariants as Register
 use Rattle.registers.specs.declared.RegisterAnswer.TheVariants as RegisterAnswer
 
 pub register_address : (r : Register) → register_at (address_of r) ≡ RegisterAnswer.Writable r

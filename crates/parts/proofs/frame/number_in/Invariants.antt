@@ -1,0 +1,22 @@
+-- `parts::frame::number_in` meets its contract. The invariant goes by what is left: the runs not yet passed, with the number of
+-- their first frame, give what all columns give, and the frames passed and left are F, so that no sum wraps.
+use mathlib.Core.Path.{◌≡◌, ◌∙◌, refl, sym, ap}
+use Prim.Native.Nat.{◌+◌, ◌-◌, ◌*◌, ◌≤◌, ◌<◌}
+use native.Mathlib.Omega.{arith}
+use lib.ListN.{drop}
+use borrow.Author.Rules.{rules}
+use Rattle.parts.specs.Table.{frame_count}
+use Rattle.parts.specs.Laws.PrintedFigures.{count_limit}
+use Rattle.parts.specs.Columns.{runs, columns_of, columns, total}
+use Rattle.parts.specs.FrameAddress.{number_in}
+use Rattle.parts.specs.Inner.ColumnRuns.{in_run_frame, in_run_below, runs_number, runs_no_number, runs_total, runs_end, runs_fit}
+use Rattle.parts.specs.Laws.FrameNumbers.{frames_total}
+use Rattle.parts.proofs.frame.number_in.Given as goal
+
+abbrev pub invariant-loop-i : goal.invariant-loop-i
+invariant-loop-i l =
+    (l.i ≤ 6) × (l.first + total (columns_of (drop l.i (runs l.part))) ≡ frame_count l.part)
+    × (number_in (columns_of (drop l.i (runs l.part))) l.first l.block l.major l.minor ≡ number_in (columns l.part) 0 l.block l.major l.minor)
+
+abbrev pub decreases-loop-i : goal.decreases-loop-i
+decreases-loop-i l = 6 - l.i

@@ -1,0 +1,32 @@
+-- `parts::frame::search_run` meets its contract. The invariant goes by what is left: the columns not yet passed, searched for
+-- the number that is left, give what the whole run gives, whatever columns follow. It holds after the leap, by `run_past`.
+use mathlib.Core.Path.{◌≡◌, ◌∙◌, sym, ap}
+use mathlib.Core.List.{List, ◌++◌}
+use Prim.Native.Nat.{◌+◌, ◌-◌, ◌≤◌}
+use native.Mathlib.Omega.{arith}
+use borrow.Author.Rules.{rules}
+use Rattle.parts.specs.Columns.{Column, columns_from}
+use Rattle.parts.specs.FrameAddress.{address_in}
+use Rattle.answers.specs.declared.Answer.TheVariants as Answer
+use Rattle.parts.specs.Inner.ColumnRuns.{resumed, run_here, run_later, run_end, run_past}
+use Rattle.parts.proofs.frame.search_run.Goals as goal
+
+pub loop-i-init : goal.loop-i-init
+loop-i-init c = (omega arith, omega arith, λ rest. sym (run_past _ _ _ _ rest _ c.leap-i.result (omega arith) (omega arith)))
+
+pub returns-then-left-run : goal.returns-then-left-run
+unfolding resumed
+returns-then-left-run c rest =
+    let l = c.loop-i in
+    sym (l.invariant.2 rest) ∙ run_here _ _ _ _ rest l.i l.left (omega arith) (omega arith) ∙ ap Answer.Done (sym c.address_of.ensures)
+
+pub loop-i-preserved : goal.loop-i-preserved
+loop-i-preserved c =
+    let l = c.loop-i in
+    (omega arith, omega arith, λ rest. sym (run_later _ _ _ _ rest l.i l.left (omega arith) (omega arith)) ∙ l.invariant.2 rest)
+
+pub returns : goal.returns
+unfolding resumed
+returns c rest =
+    let l = c.loop-i in
+    sym (l.invariant.2 rest) ∙ ap (λ cs. address_in cs l.left) (run_end _ _ _ _ rest l.i l.left (omega arith))
