@@ -2,12 +2,8 @@
 -- By computation: the frame is the same repeat on both sides.
 use mathlib.Core.Path.{refl}
 use Rattle.record.specs.PowerOn.{fresh, fresh_control}
-use Rattle.record.proofs.power.fresh.Statement.{statement}
-use Rattle.record.proofs.power.fresh.Tie as tie
+use Rattle.record.proofs.power.fresh.Goals as goal
 
-returns : tie.Need-returns
+pub returns : goal.returns
 unfolding fresh fresh_control
 returns c = refl
-
-pub fresh-spec : {M : Type 1} → statement M
-fresh-spec = tie.close (tie.spec returns)

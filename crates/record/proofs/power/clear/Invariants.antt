@@ -1,0 +1,16 @@
+-- `record::power::clear` meets its contract. The invariant: the bytes passed are zero, and the others are as they were.
+-- At the end no byte is left.
+use mathlib.Core.Path.{◌≡◌, ◌∙◌, refl, ap}
+use mathlib.Core.List.{◌++◌, append-nil}
+use Prim.Native.Nat.{◌+◌, ◌-◌, ◌≤◌}
+use native.Mathlib.Omega.{arith}
+use lib.ListN.{length, drop, set, replicate, length-set}
+use lib.Seq.{drop-length}
+use borrow.Author.Fill.{fill_none, fill_more}
+use Rattle.record.proofs.power.clear.Given as goal
+
+abbrev pub invariant-loop-i : goal.invariant-loop-i
+invariant-loop-i l = (l.i ≤ length l.initial.memory) × (l.memory ≡ replicate l.i 0 ++ drop l.i l.initial.memory) × (length l.memory ≡ length l.initial.memory)
+
+abbrev pub decreases-loop-i : goal.decreases-loop-i
+decreases-loop-i l = length l.initial.memory - l.i
