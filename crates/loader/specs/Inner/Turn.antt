@@ -2,7 +2,7 @@
 -- By the laws of the next byte, the next word and the next words that only fill; no step changes the device number.
 use Rattle.std.specs.Prelude.{◌≡◌, refl, List, true, false, ℕ, ◌+◌, ◌-◌, ◌*◌, ◌≤◌, ◌<◌, length, get_or, drop}
 use Rattle.std.proofs.Common.{arith}
-use Rattle.std.specs.Borrow.{Bor}
+use Rattle.std.specs.Borrow.{Bor, MutBor}
 use denote.Triple.Both.{Both}
 use Rattle.parts.specs.Table.{length_at}
 use Rattle.config.specs.PhaseTests.{is_stopped, takes_words}
@@ -34,13 +34,17 @@ pub record Turn (d : Record) (m : List ℕ) (e : Record) (k : List ℕ) (s : Lis
 abbrev Lent : Type 0
 Lent = Both (Bor (List ℕ)) (Bor (List ℕ))
 
+-- the same of what the callee may write
+abbrev LentToWrite : Type 0
+LentToWrite = Both (MutBor (List ℕ)) (MutBor (List ℕ))
+
 -- the bytes taken from offset i on lead from p, c, the frame and memory m to what r holds, the frame and memory k
-abbrev pub TurnsOver : Phase → Control → Lent → List ℕ → List ℕ → Lent → ℕ → Turned → Type 0
+abbrev pub TurnsOver : Phase → Control → LentToWrite → List ℕ → List ℕ → Lent → ℕ → Turned → Type 0
 TurnsOver p c frame m k bytes i r =
     Turn (record_of p c frame.entry.now) m (record_of r.phase r.control frame.exit.now) k bytes.entry.now i r.taken
 
 -- the same over a memory that is lent
-abbrev pub Turns : Phase → Control → Lent → Lent → Lent → ℕ → Turned → Type 0
+abbrev pub Turns : Phase → Control → LentToWrite → LentToWrite → Lent → ℕ → Turned → Type 0
 Turns p c frame memory bytes i r = TurnsOver p c frame memory.entry.now memory.exit.now bytes i r
 
 -- between words: the partial word is empty; a frame of the part has so many words
