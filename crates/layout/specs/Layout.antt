@@ -4,13 +4,10 @@
 use Rattle.std.specs.Prelude.{ℕ, ◌+◌, ◌*◌, List, [], ◌∷◌, Bool, cond, eqb, ltb, length}
 use Rattle.parts.specs.Table.{part_of, length_at, count_at}
 use Rattle.parts.specs.declared.table.PartAnswer.{PartAnswer}
-use Rattle.parts.specs.declared.table.PartAnswer.TheVariants as PartAnswer
 use Rattle.answers.specs.declared.Refusal.TheVariants as Refusal
 use Rattle.answers.specs.declared.Answer.{Answer}
-use Rattle.answers.specs.declared.Answer.TheVariants as Answer
 use Rattle.numbers.specs.Number.{number_at}
 use Rattle.numbers.specs.declared.Number.{Number}
-use Rattle.numbers.specs.declared.Number.TheVariants as Number
 use Rattle.layout.specs.Ownership.{for_desk}
 use Rattle.layout.specs.Step.{Step, FrameWrite, MultiFrameWrite, Reading, Read, Refused}
 use Rattle.layout.specs.StepReading.{steps_at}

@@ -5,7 +5,7 @@ use Rattle.std.specs.Prelude.{ℕ, ◌+◌, List, [], ◌∷◌}
 use Rattle.parts.specs.Table.{length_at, count_at}
 use Rattle.parts.specs.FrameMemory.{placed}
 use Rattle.layout.specs.Ownership.{range}
-use Rattle.layout.specs.Step.{Step, FrameWrite, MultiFrameWrite, Reading, Read, Refused}
+use Rattle.layout.specs.Step.{Step, FrameWrite, MultiFrameWrite, Reading}
 use Rattle.layout.specs.Layout.{desk_layout}
 
 module _ (l : ℕ) where

@@ -7,12 +7,10 @@ use Rattle.answers.specs.StopsAndRefusals.{refusal_number}
 use Rattle.answers.specs.declared.Refusal.TheVariants as Refusal
 use Rattle.numbers.specs.Number.{number_at}
 use Rattle.numbers.specs.declared.Number.{Number}
-use Rattle.numbers.specs.declared.Number.TheVariants as Number
 use Rattle.layout.specs.Ownership.{for_desk, owns_run}
 use Rattle.layout.specs.Step.{Step, FrameWrite, MultiFrameWrite, Reading, Read, Refused, before, listed, frames}
 use Rattle.layout.specs.declared.FrameRange.{FrameRange}
 use Rattle.layout.specs.declared.step.StepAt.{StepAt}
-use Rattle.layout.specs.declared.step.StepAt.TheVariants as StepAt
 
 -- 01: "each target: not rising", 45 by 02, then 34, 35; low is the least that rises
 unfoldable pub judged_target : ℕ → (ℕ → Bool) → ℕ → Number → Number

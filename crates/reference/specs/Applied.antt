@@ -5,7 +5,6 @@ use Rattle.std.specs.Prelude.{ℕ, List, cond, eqb, length}
 use Rattle.parts.specs.Table.{memory_at}
 use Rattle.answers.specs.declared.Refusal.TheVariants as Refusal
 use Rattle.answers.specs.declared.Answer.{Answer}
-use Rattle.answers.specs.declared.Answer.TheVariants as Answer
 use Rattle.layout.specs.Layout.{check}
 use Rattle.layout.specs.ReferenceMachine.{machine}
 use Rattle.layout.specs.declared.FrameRange.{FrameRange}

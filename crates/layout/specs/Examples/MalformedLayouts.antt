@@ -4,7 +4,7 @@ use Rattle.std.specs.Prelude.{◌≡◌, refl, List, [], ◌∷◌, ◌++◌, �
 use Rattle.parts.specs.Table.{parts, part_of, figure_of, frame_length, frame_count}
 use Rattle.answers.specs.AnswerNumbers.{answer_number, answer_value}
 use Rattle.numbers.specs.Number.{last_group, low_group, groups}
-use Rattle.layout.specs.Ownership.{range, owns, owns_run}
+use Rattle.layout.specs.Ownership.{range, owns}
 use Rattle.layout.specs.StepReading.{judged_target, and_target, targets_at, targets_read, judged_write, write_count, write_first, judged_multi, multi_count, step_kind, and_step, steps_at}
 use Rattle.layout.specs.Step.{before}
 use Rattle.layout.specs.Layout.{end_read, count_read, device_read, edition_read, check_answer, check_for, check}

@@ -9,11 +9,8 @@ use Rattle.std.proofs.Math.Nat.{suc-sub-suc, sub-zero}
 use Rattle.parts.specs.Table.{part_of, length_at, count_at}
 use Rattle.parts.specs.declared.table.Part.{Part}
 use Rattle.parts.specs.declared.table.PartAnswer.{PartAnswer}
-use Rattle.parts.specs.declared.table.PartAnswer.TheVariants as PartAnswer
 use Rattle.answers.specs.declared.Refusal.{Refusal}
-use Rattle.answers.specs.declared.Refusal.TheVariants as Refusal
 use Rattle.answers.specs.declared.Answer.{Answer}
-use Rattle.answers.specs.declared.Answer.TheVariants as Answer
 use Rattle.numbers.specs.Number.{number_at}
 use Rattle.numbers.specs.declared.Number.TheVariants as Number
 use Rattle.layout.specs.Ownership.{owns_run}

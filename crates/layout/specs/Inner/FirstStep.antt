@@ -11,7 +11,6 @@ use Rattle.layout.specs.Inner.CheckLoops.{steps_more}
 use Rattle.layout.specs.Inner.TargetNumbers.{numbers_at, targets_numbers}
 use Rattle.layout.specs.Laws.AcceptedLayout.{is_read}
 use Rattle.layout.specs.declared.step.StepAt.{StepAt}
-use Rattle.layout.specs.declared.step.StepAt.TheVariants as StepAt
 
 -- the one step that lies there, or none
 unfoldable pub step_of : ℕ → List ℕ → StepAt → List Step

@@ -9,7 +9,6 @@ use Rattle.parts.specs.Laws.FramePlacing.{frame_end}
 use Rattle.answers.specs.declared.Refusal.{Refusal}
 use Rattle.numbers.specs.Number.{number_at}
 use Rattle.numbers.specs.declared.Number.{Number}
-use Rattle.numbers.specs.declared.Number.TheVariants as Number
 use Rattle.layout.specs.Step.{Read, listed}
 use Rattle.layout.specs.StepReading.{targets_at}
 use Rattle.layout.specs.Laws.StepViews.{target_view}

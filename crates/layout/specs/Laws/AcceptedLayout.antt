@@ -5,15 +5,11 @@ use Rattle.std.proofs.Common.{◌∙◌, sym, subst, arith, lt-ltb, le-leb, ltb-
 use Rattle.parts.specs.Table.{part_of, length_at, count_at}
 use Rattle.parts.specs.declared.table.Part.{Part}
 use Rattle.parts.specs.declared.table.PartAnswer.{PartAnswer}
-use Rattle.parts.specs.declared.table.PartAnswer.TheVariants as PartAnswer
 use Rattle.answers.specs.declared.Refusal.{Refusal}
-use Rattle.answers.specs.declared.Refusal.TheVariants as Refusal
 use Rattle.answers.specs.declared.Answer.{Answer}
-use Rattle.answers.specs.declared.Answer.TheVariants as Answer
 use Rattle.numbers.specs.Number.{number_at}
 use Rattle.numbers.specs.Laws.ShortestForm.{number_short}
 use Rattle.numbers.specs.declared.Number.{Number}
-use Rattle.numbers.specs.declared.Number.TheVariants as Number
 use Rattle.parts.specs.Laws.Cases.{either}
 use Rattle.layout.specs.Ownership.{range, owns}
 use Rattle.layout.specs.Step.{Step, Reading, Read}

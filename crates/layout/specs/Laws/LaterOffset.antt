@@ -13,18 +13,15 @@ use Rattle.parts.specs.Table.{part_of, length_at, count_at}
 use Rattle.parts.specs.declared.table.Part.{Part}
 use Rattle.parts.specs.declared.table.PartAnswer.TheVariants as PartAnswer
 use Rattle.answers.specs.declared.Answer.{Answer}
-use Rattle.answers.specs.declared.Answer.TheVariants as Answer
 use Rattle.answers.specs.declared.Refusal.{Refusal}
 use Rattle.numbers.specs.Number.{last_group, low_group, groups, number_at}
 use Rattle.numbers.specs.declared.Number.{Number}
-use Rattle.numbers.specs.declared.Number.TheVariants as Number
 use Rattle.layout.specs.Step.{Step, Reading, before, listed}
 use Rattle.layout.specs.StepReading.{judged_target, and_target, targets_at, judged_write, write_count, write_first, targets_read, judged_multi, multi_count, step_kind, step_at, and_step, steps_at}
 use Rattle.layout.specs.Layout.{end_read, count_read, device_read, edition_read, layout_at, desk_layout_at, desk_layout, check_answer, check_at, check}
 use Rattle.layout.specs.Inner.CheckLoops.{check_no_part, check_wrong_range, check_layout}
 use Rattle.layout.specs.declared.FrameRange.{FrameRange}
 use Rattle.layout.specs.declared.step.StepAt.{StepAt}
-use Rattle.layout.specs.declared.step.StepAt.TheVariants as StepAt
 
 -- a reading, its offset m more
 unfoldable pub later_reading : {A : Type 0} → ℕ → Reading A → Reading A

@@ -5,7 +5,6 @@ use Rattle.std.proofs.Math.Path.{refl, subst}
 use borrow.Author.Tests.{ltb-false, eqb-true, le-ltb, eq-eqb}
 use Rattle.numbers.specs.Number.{number_at}
 use Rattle.numbers.specs.declared.Number.{Number}
-use Rattle.numbers.specs.declared.Number.TheVariants as Number
 use Rattle.parts.specs.Laws.Cases.{either}
 use Rattle.layout.specs.Step.{Step, FrameWrite, MultiFrameWrite, Reading, Read, before, listed, frames}
 use Rattle.layout.specs.StepReading.{step_at, and_step, steps_at}
@@ -13,7 +12,6 @@ use Rattle.layout.specs.Layout.{most_steps, end_read, count_read, device_read, e
 use Rattle.layout.specs.Laws.StepViews.{WriteView, MultiView, write_view, multi_view}
 use Rattle.layout.specs.Laws.ViewConverse.{write_reads, multi_reads}
 use Rattle.layout.specs.declared.step.StepAt.{StepAt}
-use Rattle.layout.specs.declared.step.StepAt.TheVariants as StepAt
 
 module _ (l f : ℕ) (own : ℕ → Bool) (b : List ℕ) where
   -- ---- a list of steps

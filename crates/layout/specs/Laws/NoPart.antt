@@ -5,7 +5,6 @@ use Rattle.std.proofs.Common.{arith}
 use borrow.Author.Tests.{le-ltb, lt-ltb, ne_eqb}
 use Rattle.parts.specs.Table.{part_of, figure_of, count_at, length_at}
 use Rattle.answers.specs.declared.Refusal.{Refusal}
-use Rattle.answers.specs.declared.Refusal.TheVariants as Refusal
 use Rattle.numbers.specs.Number.{number_at}
 use Rattle.numbers.specs.declared.Number.TheVariants as Number
 use Rattle.layout.specs.Ownership.{owns}
@@ -13,7 +12,6 @@ use Rattle.layout.specs.StepReading.{judged_write, write_count, write_first, jud
 use Rattle.layout.specs.Laws.StepViews.{write_view, multi_view}
 use Rattle.layout.specs.declared.FrameRange.{FrameRange}
 use Rattle.layout.specs.declared.step.StepAt.{StepAt}
-use Rattle.layout.specs.declared.step.StepAt.TheVariants as StepAt
 
 no_frames : (d : ℕ) → 8 ≤ d → count_at d ≡ 0
 unfolding part_of figure_of

@@ -8,7 +8,6 @@ use Rattle.layout.specs.Layout.{check}
 use Rattle.layout.specs.StepReading.{step_refusal}
 use Rattle.layout.specs.declared.FrameRange.{FrameRange}
 use Rattle.layout.specs.declared.step.StepAt.{StepAt}
-use Rattle.layout.specs.declared.step.StepAt.TheVariants as StepAt
 
 pub no_layout_31 : (d : ℕ) (r : FrameRange) (b : List ℕ) → answer_number (check d r b) ≡ 31 → ⊥
 no_layout_31 d r b = no_answer_31 (check d r b)

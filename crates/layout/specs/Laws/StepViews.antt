@@ -6,13 +6,11 @@ use Rattle.std.proofs.Common.{arith}
 use borrow.Author.Tests.{ltb-true, ltb-false, eqb-true, eqb-false}
 use Rattle.numbers.specs.Number.{number_at}
 use Rattle.numbers.specs.declared.Number.{Number}
-use Rattle.numbers.specs.declared.Number.TheVariants as Number
 use Rattle.parts.specs.Laws.Cases.{either}
 use Rattle.layout.specs.Ownership.{owns_run}
 use Rattle.layout.specs.Step.{Reading, Read, before}
 use Rattle.layout.specs.StepReading.{judged_target, and_target, targets_at, judged_write, write_count, write_first, targets_read, judged_multi, multi_count, step_kind, step_at}
 use Rattle.layout.specs.declared.step.StepAt.{StepAt}
-use Rattle.layout.specs.declared.step.StepAt.TheVariants as StepAt
 
 module _ (l f : ℕ) (own : ℕ → Bool) (b : List ℕ) where
   -- ---- targets

@@ -10,7 +10,6 @@ use Rattle.layout.specs.Inner.TargetNumbers.{numbers_at, Roomy, targets_numbers}
 use Rattle.layout.specs.Laws.AcceptedLayout.{is_read}
 use Rattle.layout.specs.Inner.FirstStep.{step_of, steps_none, steps_first}
 use Rattle.layout.specs.declared.step.StepAt.{StepAt}
-use Rattle.layout.specs.declared.step.StepAt.TheVariants as StepAt
 
 -- a step's frames lie in a memory of n bytes
 abbrev pub StepRoom : ℕ → List ℕ → ℕ → StepAt → Type 0

@@ -8,7 +8,6 @@ use Rattle.parts.specs.Laws.Figures.{memory_size}
 use Rattle.parts.specs.FrameMemory.{frame_of}
 use Rattle.answers.specs.AnswerNumbers.{answer_number}
 use Rattle.answers.specs.declared.Answer.{Answer}
-use Rattle.answers.specs.declared.Answer.TheVariants as Answer
 use Rattle.layout.specs.Ownership.{owns}
 use Rattle.layout.specs.Layout.{check}
 use Rattle.layout.specs.ReferenceMachine.{machine}

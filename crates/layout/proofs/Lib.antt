@@ -1,3 +1,0 @@
-pub mod Apart
-pub mod Owned
-pub mod Walk
