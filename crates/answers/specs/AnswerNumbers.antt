@@ -3,9 +3,7 @@
 use Rattle.std.specs.Prelude.{ℕ}
 use Rattle.answers.specs.StopsAndRefusals.{stop_number, refusal_number}
 use Rattle.answers.specs.declared.Answer.{Answer}
-use Rattle.answers.specs.declared.Answer.TheVariants as Answer
 use Rattle.answers.specs.declared.LoadAnswer.{LoadAnswer}
-use Rattle.answers.specs.declared.LoadAnswer.TheVariants as LoadAnswer
 
 abbrev pub answer_number : Answer → ℕ
 answer_number (Answer.Done n) = 0

@@ -2,9 +2,7 @@
 -- Sources: 01, "Stops and refusals", the table; 02, W2, for a layout that is malformed.
 use Rattle.std.specs.Prelude.{ℕ}
 use Rattle.answers.specs.declared.Stop.{Stop}
-use Rattle.answers.specs.declared.Stop.TheVariants as Stop
 use Rattle.answers.specs.declared.Refusal.{Refusal}
-use Rattle.answers.specs.declared.Refusal.TheVariants as Refusal
 
 -- 1 "header of no allowed kind", 2 "register unknown, or written though it can't be", 3 "read operation", 4 "IDCODE word not the part's",
 -- 5 "FLR word not L-1", 6 FDRI or MFWR before all that it needs, 7 "FDRI count not whole frames, MFWR count not 2", 8 "CRC check not

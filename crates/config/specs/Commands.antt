@@ -8,7 +8,6 @@ use Rattle.config.specs.declared.PartialWord.TheVariants as PartialWord
 use Rattle.config.specs.declared.Flags.{Flags}
 use Rattle.config.specs.declared.Control.{Control}
 use Rattle.config.specs.declared.Phase.{Phase}
-use Rattle.config.specs.declared.Phase.TheVariants as Phase
 use Rattle.config.specs.declared.Event.TheVariants as Event
 use Rattle.config.specs.declared.Transition.{Transition}
 

@@ -3,9 +3,7 @@
 use Rattle.std.specs.Prelude.{ℕ}
 use Rattle.parts.specs.FrameAddress.{frame_number}
 use Rattle.parts.specs.declared.frame.NumberAnswer.{NumberAnswer}
-use Rattle.parts.specs.declared.frame.NumberAnswer.TheVariants as NumberAnswer
 use Rattle.config.specs.declared.Current.{Current}
-use Rattle.config.specs.declared.Current.TheVariants as Current
 
 unfoldable pub current_from : NumberAnswer → Current
 current_from (NumberAnswer.Number n) = Current.Frame n

@@ -11,16 +11,12 @@ use Rattle.config.specs.ControlState.{with_registers, with_flags, with_current, 
 use Rattle.config.specs.PacketHeaders.{header_word}
 use Rattle.config.specs.Commands.{acted}
 use Rattle.registers.specs.declared.Register.{Register}
-use Rattle.registers.specs.declared.Register.TheVariants as Register
 use Rattle.config.specs.declared.Open.TheVariants as Open
 use Rattle.config.specs.declared.Current.{Current}
-use Rattle.config.specs.declared.Current.TheVariants as Current
 use Rattle.config.specs.declared.Control.{Control}
 use Rattle.config.specs.declared.Phase.{Phase}
-use Rattle.config.specs.declared.Phase.TheVariants as Phase
 use Rattle.answers.specs.declared.Stop.TheVariants as Stop
 use Rattle.config.specs.declared.Event.{Event}
-use Rattle.config.specs.declared.Event.TheVariants as Event
 use Rattle.config.specs.declared.Transition.{Transition}
 
 -- ---- the packet goes on

@@ -7,11 +7,8 @@ use Rattle.registers.specs.CommandCodes.{WCFG, MFWR}
 use Rattle.config.specs.ControlState.{transition, stopped}
 use Rattle.registers.specs.declared.Register.{Register}
 use Rattle.registers.specs.declared.RegisterAnswer.{RegisterAnswer}
-use Rattle.registers.specs.declared.RegisterAnswer.TheVariants as RegisterAnswer
 use Rattle.config.specs.declared.Open.{Open}
-use Rattle.config.specs.declared.Open.TheVariants as Open
 use Rattle.config.specs.declared.PacketHeader.{PacketHeader}
-use Rattle.config.specs.declared.PacketHeader.TheVariants as PacketHeader
 use Rattle.config.specs.declared.Control.{Control}
 use Rattle.config.specs.declared.Phase.TheVariants as Phase
 use Rattle.answers.specs.declared.Stop.TheVariants as Stop

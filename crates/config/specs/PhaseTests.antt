@@ -2,7 +2,6 @@
 -- Sources: 01, "Words and packets"; "Stops and refusals"; "Layouts".
 use Rattle.std.specs.Prelude.{Bool, true, false}
 use Rattle.config.specs.declared.Phase.{Phase}
-use Rattle.config.specs.declared.Phase.TheVariants as Phase
 
 -- 01: "Waiting for sync is phase hunting, with any bytes remembered"
 abbrev pub is_hunting : Phase → Bool

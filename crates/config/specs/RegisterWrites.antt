@@ -5,7 +5,6 @@ use Rattle.std.specs.Int.Bits.{bit_and, bit_or}
 use Rattle.crc16.specs.CrcRegister.{feed}
 use Rattle.registers.specs.RegisterAddresses.{address_of, same, is_lout}
 use Rattle.registers.specs.declared.Register.{Register}
-use Rattle.registers.specs.declared.Register.TheVariants as Register
 use Rattle.config.specs.declared.Registers.{Registers}
 
 abbrev pub with_crc : ℕ → Registers → Registers

@@ -6,10 +6,8 @@ use Rattle.config.specs.ControlState.{with_partial, transition}
 use Rattle.config.specs.DataWords.{word}
 use Rattle.config.specs.declared.Open.TheVariants as Open
 use Rattle.config.specs.declared.PartialWord.{PartialWord}
-use Rattle.config.specs.declared.PartialWord.TheVariants as PartialWord
 use Rattle.config.specs.declared.Control.{Control}
 use Rattle.config.specs.declared.Phase.{Phase}
-use Rattle.config.specs.declared.Phase.TheVariants as Phase
 use Rattle.config.specs.declared.Event.TheVariants as Event
 use Rattle.config.specs.declared.Transition.{Transition}
 

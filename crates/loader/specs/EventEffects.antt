@@ -4,7 +4,6 @@ use Rattle.std.specs.Prelude.{ℕ, ◌+◌, ◌*◌, List, cond, leb, length, ta
 use Rattle.words.specs.WordsInBytes.{bytes_of}
 use Rattle.parts.specs.FrameMemory.{placed}
 use Rattle.config.specs.declared.Event.{Event}
-use Rattle.config.specs.declared.Event.TheVariants as Event
 
 -- the buffer after an event
 unfoldable pub buffered : Event → List ℕ → List ℕ

@@ -5,13 +5,10 @@ use Rattle.parts.specs.Table.{memory_at}
 use Rattle.record.specs.Consistency.{consistent}
 use Rattle.record.specs.PowerOn.{Outcome}
 use Rattle.config.specs.declared.Phase.{Phase}
-use Rattle.config.specs.declared.Phase.TheVariants as Phase
 use Rattle.loader.specs.Run.{Ran, run}
 use Rattle.record.specs.declared.Record.{Record}
-use Rattle.answers.specs.declared.Refusal.TheVariants as Refusal
 use Rattle.answers.specs.declared.Refusal.{Refusal}
 use Rattle.answers.specs.declared.LoadAnswer.{LoadAnswer}
-use Rattle.answers.specs.declared.LoadAnswer.TheVariants as LoadAnswer
 
 -- 01: "A load answers its stop number (0 for none)"
 unfoldable pub answer_of : Phase → LoadAnswer

@@ -6,7 +6,6 @@ use Rattle.std.specs.Prelude.{ℕ, zero, suc, ◌+◌, ◌-◌, ◌*◌, List, [
 use Rattle.answers.specs.StopsAndRefusals.{refusal_number}
 use Rattle.answers.specs.declared.Refusal.TheVariants as Refusal
 use Rattle.numbers.specs.declared.Number.{Number}
-use Rattle.numbers.specs.declared.Number.TheVariants as Number
 
 -- the last byte of a number; "shortest form only": it is 0 only where it is the first byte too
 unfoldable pub last_group : Bool → ℕ → ℕ → Number

@@ -5,14 +5,11 @@ use Rattle.answers.specs.StopsAndRefusals.{refusal_number}
 use Rattle.answers.specs.AnswerNumbers.{answer_value}
 use Rattle.answers.specs.declared.Refusal.TheVariants as Refusal
 use Rattle.answers.specs.declared.Answer.{Answer}
-use Rattle.answers.specs.declared.Answer.TheVariants as Answer
 use Rattle.parts.specs.Table.{part_of, frame_count}
 use Rattle.parts.specs.Columns.{Column, columns}
 use Rattle.parts.specs.declared.table.PartAnswer.{PartAnswer}
-use Rattle.parts.specs.declared.table.PartAnswer.TheVariants as PartAnswer
 use Rattle.parts.specs.declared.frame.AddressFields.{AddressFields}
 use Rattle.parts.specs.declared.frame.NumberAnswer.{NumberAnswer}
-use Rattle.parts.specs.declared.frame.NumberAnswer.TheVariants as NumberAnswer
 
 -- 01: "block in bits 26..25, major in 24..17, minor in 16..9"
 unfoldable pub address : ℕ → ℕ → ℕ → ℕ

@@ -5,7 +5,6 @@ use Rattle.answers.specs.StopsAndRefusals.{refusal_number}
 use Rattle.answers.specs.declared.Refusal.TheVariants as Refusal
 use Rattle.parts.specs.declared.table.Part.{Part}
 use Rattle.parts.specs.declared.table.PartAnswer.{PartAnswer}
-use Rattle.parts.specs.declared.table.PartAnswer.TheVariants as PartAnswer
 
 abbrev pub part : ℕ → ℕ → ℕ → ℕ → Part
 part i r c b = record { idcode = i; rows = r; columns = c; ram_columns = b }

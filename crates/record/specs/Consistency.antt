@@ -7,10 +7,8 @@ use Rattle.registers.specs.RegisterAddresses.{is_fdri, is_mfwr}
 use Rattle.registers.specs.CommandCodes.{last_command}
 use Rattle.registers.specs.declared.Register.{Register}
 use Rattle.config.specs.declared.Current.{Current}
-use Rattle.config.specs.declared.Current.TheVariants as Current
 use Rattle.config.specs.declared.Control.{Control}
 use Rattle.config.specs.declared.Phase.{Phase}
-use Rattle.config.specs.declared.Phase.TheVariants as Phase
 
 -- "current frame under F or none"
 unfoldable pub current_fits : ℕ → Current → Bool

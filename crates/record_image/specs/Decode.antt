@@ -5,21 +5,14 @@ use Rattle.words.specs.WordsInBytes.{word_at, words_at}
 use Rattle.registers.specs.RegisterAddresses.{register_at}
 use Rattle.registers.specs.declared.Register.{Register}
 use Rattle.registers.specs.declared.RegisterAnswer.{RegisterAnswer}
-use Rattle.registers.specs.declared.RegisterAnswer.TheVariants as RegisterAnswer
-use Rattle.registers.specs.declared.Register.TheVariants as Register
 use Rattle.config.specs.declared.Open.{Open}
-use Rattle.config.specs.declared.Open.TheVariants as Open
 use Rattle.answers.specs.declared.Stop.{Stop}
-use Rattle.answers.specs.declared.Stop.TheVariants as Stop
 use Rattle.config.specs.declared.PartialWord.{PartialWord}
-use Rattle.config.specs.declared.PartialWord.TheVariants as PartialWord
 use Rattle.config.specs.declared.Current.{Current}
-use Rattle.config.specs.declared.Current.TheVariants as Current
 use Rattle.config.specs.declared.Flags.{Flags}
 use Rattle.config.specs.declared.Registers.{Registers}
 use Rattle.config.specs.declared.Control.{Control}
 use Rattle.config.specs.declared.Phase.{Phase}
-use Rattle.config.specs.declared.Phase.TheVariants as Phase
 use Rattle.record.specs.declared.Record.{Record}
 
 -- word k: "words of 32 bits, high byte first"; bytes that are missing are 0

@@ -4,16 +4,12 @@ use Rattle.std.specs.Prelude.{ℕ, ◌+◌, ◌*◌, ◌^◌, List, [], ◌∷�
 use Rattle.registers.specs.RegisterAddresses.{address_of, is_fdri}
 use Rattle.answers.specs.StopsAndRefusals.{stop_number}
 use Rattle.config.specs.declared.Open.{Open}
-use Rattle.config.specs.declared.Open.TheVariants as Open
 use Rattle.config.specs.declared.PartialWord.{PartialWord}
-use Rattle.config.specs.declared.PartialWord.TheVariants as PartialWord
 use Rattle.config.specs.declared.Current.{Current}
-use Rattle.config.specs.declared.Current.TheVariants as Current
 use Rattle.config.specs.declared.Flags.{Flags}
 use Rattle.config.specs.declared.Registers.{Registers}
 use Rattle.config.specs.declared.Control.{Control}
 use Rattle.config.specs.declared.Phase.{Phase}
-use Rattle.config.specs.declared.Phase.TheVariants as Phase
 use Rattle.record.specs.declared.Record.{Record}
 use Rattle.words.specs.WordsInBytes.{bytes_of}
 

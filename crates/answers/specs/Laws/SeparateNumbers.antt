@@ -5,13 +5,9 @@ use Rattle.std.proofs.Common.{◌∙◌, sym, ap, arith}
 use Rattle.answers.specs.StopsAndRefusals.{stop_number, refusal_number}
 use Rattle.answers.specs.AnswerNumbers.{answer_number, load_number}
 use Rattle.answers.specs.declared.Stop.{Stop}
-use Rattle.answers.specs.declared.Stop.TheVariants as Stop
 use Rattle.answers.specs.declared.Refusal.{Refusal}
-use Rattle.answers.specs.declared.Refusal.TheVariants as Refusal
 use Rattle.answers.specs.declared.Answer.{Answer}
-use Rattle.answers.specs.declared.Answer.TheVariants as Answer
 use Rattle.answers.specs.declared.LoadAnswer.{LoadAnswer}
-use Rattle.answers.specs.declared.LoadAnswer.TheVariants as LoadAnswer
 
 abbrev refusals : List Refusal
 refusals =

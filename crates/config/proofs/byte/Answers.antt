@@ -1,6 +1,5 @@
 -- `config::byte` meets its contract: a byte of the hunt, of a word, or none where the machine is stopped.
 -- By the contract of the phase's call, once the phase is known.
-use borrow.Author.Rules.{rules}
 use Rattle.config.specs.StreamBytes.{byte}
 use Rattle.config.proofs.byte.Goals as goal
 

@@ -1,6 +1,5 @@
 -- `config::word` meets its contract: a whole word in each phase.
 -- By the contract of the phase's call, once the phase is known.
-use borrow.Author.Rules.{rules}
 use Rattle.config.specs.DataWords.{word}
 use Rattle.config.proofs.word.Goals as goal
 

@@ -9,7 +9,6 @@ use Rattle.config.specs.RegisterWrites.{hold}
 use Rattle.config.specs.ControlState.{raised}
 use Rattle.config.specs.Commands.{signalled}
 use Rattle.registers.specs.declared.Register.{Register}
-use Rattle.registers.specs.declared.Register.TheVariants as Register
 use Rattle.config.specs.declared.Registers.{Registers}
 use Rattle.config.specs.declared.Flags.{Flags}
 

@@ -18,22 +18,14 @@ use Rattle.config.specs.DataWords.{ended, onward, checked, crc_word, far_word, c
 use Rattle.words.specs.WordsInBytes.{word_of}
 use Rattle.config.specs.StreamBytes.{is_sync, hunted, gathered, byte}
 use Rattle.registers.specs.declared.RegisterAnswer.{RegisterAnswer}
-use Rattle.registers.specs.declared.RegisterAnswer.TheVariants as RegisterAnswer
 use Rattle.registers.specs.declared.Register.{Register}
-use Rattle.registers.specs.declared.Register.TheVariants as Register
 use Rattle.config.specs.declared.PacketHeader.{PacketHeader}
-use Rattle.config.specs.declared.PacketHeader.TheVariants as PacketHeader
 use Rattle.config.specs.declared.Current.{Current}
-use Rattle.config.specs.declared.Current.TheVariants as Current
 use Rattle.config.specs.declared.PartialWord.{PartialWord}
-use Rattle.config.specs.declared.PartialWord.TheVariants as PartialWord
 use Rattle.config.specs.declared.Control.{Control}
 use Rattle.config.specs.declared.Phase.{Phase}
-use Rattle.config.specs.declared.Phase.TheVariants as Phase
 use Rattle.answers.specs.declared.Stop.{Stop}
-use Rattle.answers.specs.declared.Stop.TheVariants as Stop
 use Rattle.config.specs.declared.Event.{Event}
-use Rattle.config.specs.declared.Event.TheVariants as Event
 use Rattle.config.specs.declared.Transition.{Transition}
 
 -- 01: "with nothing in the record changed ... Only at 8 it is fed first, and the CRC stays as it then is"

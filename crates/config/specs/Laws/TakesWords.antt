@@ -7,7 +7,6 @@ use Rattle.config.specs.PhaseTests.{takes_words, is_stopped}
 use Rattle.config.specs.StreamBytes.{gathered, byte}
 use Rattle.config.specs.declared.Control.{Control}
 use Rattle.config.specs.declared.Phase.{Phase}
-use Rattle.config.specs.declared.Phase.TheVariants as Phase
 
 pub takes_runs : (p : Phase) → takes_words p ≡ true → is_stopped p ≡ false
 takes_runs (Phase.Hunting b) h = refl

@@ -6,7 +6,6 @@ use native.Mathlib.Nat.{mul-one, lt_of_lt_of_le}
 use native.Mathlib.Numerals.{add-one}
 use native.Mathlib.Omega.{arith}
 use lib.Pow.{shr-shr, shl-shr, pow_mono}
-use borrow.Author.Rules.{rules}
 use Rattle.crc16.specs.CrcRegister.{leaving, check_word}
 use Rattle.crc16.specs.Laws.CheckWord.{leaving_lt, shl_suc}
 use Rattle.crc16.proofs.check_word.Invariants.{taken}

@@ -1,14 +1,8 @@
 -- `crc16::check_word` meets its contract. The invariant: what was taken is what leaves a register that holds those bits at its top.
 -- The measure is what is left of the sixteen bits. Assumes nothing.
-use mathlib.Core.Path.{◌≡◌, refl, ◌∙◌, subst}
-use Prim.Native.Nat.{ℕ, suc, ◌+◌, ◌-◌, ◌*◌, ◌/◌, ◌%◌, ◌^◌, ◌<◌, ◌≤◌}
-use native.Mathlib.Nat.{mul-one, lt_of_lt_of_le}
-use native.Mathlib.Numerals.{add-one}
-use native.Mathlib.Omega.{arith}
-use lib.Pow.{shr-shr, shl-shr, pow_mono}
-use borrow.Author.Rules.{rules}
-use Rattle.crc16.specs.CrcRegister.{leaving, check_word}
-use Rattle.crc16.specs.Laws.CheckWord.{leaving_lt, shl_suc}
+use mathlib.Core.Path.{◌≡◌}
+use Prim.Native.Nat.{ℕ, ◌-◌, ◌*◌, ◌/◌, ◌^◌, ◌≤◌}
+use Rattle.crc16.specs.CrcRegister.{leaving}
 use Rattle.crc16.proofs.check_word.Given as goal
 
 -- the bits taken after k turns

@@ -1,7 +1,6 @@
 -- `crc16::feed` meets its contract.
 -- The constant that it lends is the table of `entries`, by computation, and a law says that lookups in that one feed as `feed` does.
 use mathlib.Core.Path.{◌∙◌}
-use borrow.Author.Rules.{rules}
 use Rattle.crc16.specs.CrcRegister.{input, shift, shift_in, feed}
 use Rattle.crc16.specs.NibbleTable.{share, entry, entries}
 use Rattle.crc16.specs.Laws.NibbleLookup.{feed_with_entries}

@@ -1,7 +1,5 @@
 -- `crc16::feed_with` meets its contract: its four lookups are the definition's, in the same order.
 -- The cast loses nothing, since what a lookup returns has sixteen bits, and so has the xor of four.
-use native.Mathlib.Omega.{arith}
-use lib.Bits.{xor_lt}
 use Rattle.crc16.specs.NibbleTable.{feed_with}
 use Rattle.crc16.proofs.feed_with.Goals as goal
 

@@ -1,6 +1,5 @@
 -- `loader::answer_of` meets its contract: each arm has the answer that the definition has.
 -- By computation, once the phase is known.
-use borrow.Author.Rules.{rules}
 use Rattle.loader.specs.Load.{answer_of}
 use Rattle.loader.proofs.answer_of.Goals as goal
 

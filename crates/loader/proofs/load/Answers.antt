@@ -1,12 +1,7 @@
 -- `loader::load` meets its contract: the refusals in their order, then the run of the bytes.
 -- By the laws of a load that is refused and of one that is accepted, from what the tests and the calls say.
 -- past the first test the record is consistent
-use mathlib.Core.Path.{◌≡◌, ◌∙◌, refl, sym, ap}
-use mathlib.Core.Bool.{true}
-use borrow.Author.Rules.{rules}
-use borrow.Author.Tests.{not-true, not-false}
-use Rattle.record.specs.Consistency.{consistent}
-use Rattle.parts.specs.Table.{memory_at}
+use mathlib.Core.Path.{◌∙◌, sym, ap}
 use Rattle.loader.specs.Load.{answer_of}
 use Rattle.loader.specs.Laws.Pieces.{load_accepted, load_inconsistent, load_wrong_memory}
 use Rattle.record.specs.declared.Record.{Record}

@@ -1,16 +1,12 @@
 -- `loader::run` meets its contract. The invariant goes by what is left: the rest of the bytes, run from here, gives what all of
 -- them give. A turn is `advance`'s; a stop or the end leaves nothing to run.
-use mathlib.Core.Path.{◌≡◌, ◌∙◌, refl, sym, ap}
+use mathlib.Core.Path.{◌≡◌, ◌∙◌, sym, ap}
 use mathlib.Core.List.{List}
-use Prim.Native.Nat.{ℕ, ◌+◌, ◌-◌, ◌≤◌}
+use Prim.Native.Nat.{ℕ, ◌+◌, ◌≤◌}
 use native.Mathlib.Nat.{add-zero}
-use native.Mathlib.Omega.{arith}
 use lib.ListN.{length, drop, drop_of_length-le}
-use borrow.Author.Rules.{rules}
-use Rattle.parts.specs.Table.{length_at}
 use Rattle.loader.specs.Run.{Ran, ran, after, run}
-use Rattle.loader.specs.Laws.Pieces.{stopped_run, after_zero, after_after}
-use Rattle.loader.specs.Inner.FillWords.{record_of}
+use Rattle.loader.specs.Laws.Pieces.{stopped_run, after_after}
 use Rattle.loader.specs.Inner.Turn.{Turn}
 use Rattle.record.specs.declared.Record.{Record}
 use Rattle.loader.proofs.run.Goals as goal

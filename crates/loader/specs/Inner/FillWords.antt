@@ -18,7 +18,6 @@ use Rattle.config.specs.declared.Registers.{Registers}
 use Rattle.config.specs.declared.PartialWord.TheVariants as PartialWord
 use Rattle.config.specs.declared.Control.{Control}
 use Rattle.config.specs.declared.Phase.{Phase}
-use Rattle.config.specs.declared.Phase.TheVariants as Phase
 use Rattle.loader.specs.EventEffects.{buffered, stored}
 use Rattle.loader.specs.Run.{after, byte_transition, record_after, memory_after, run}
 use Rattle.loader.specs.Laws.Pieces.{byte_run, after_after}

@@ -14,7 +14,6 @@ use Rattle.config.specs.declared.PartialWord.TheVariants as PartialWord
 use Rattle.config.specs.declared.Control.{Control}
 use Rattle.config.specs.declared.Transition.{Transition}
 use Rattle.config.specs.declared.Phase.{Phase}
-use Rattle.config.specs.declared.Phase.TheVariants as Phase
 use Rattle.loader.specs.EventEffects.{buffered, stored}
 use Rattle.words.specs.WordsInBytes.{word_at, words_at}
 use Rattle.loader.specs.Run.{after, record_after, memory_after, run}

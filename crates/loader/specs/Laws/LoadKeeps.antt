@@ -17,7 +17,6 @@ use Rattle.config.specs.declared.Transition.{Transition}
 use Rattle.answers.specs.declared.Stop.{Stop}
 use Rattle.config.specs.declared.PartialWord.TheVariants as PartialWord
 use Rattle.config.specs.declared.Phase.{Phase}
-use Rattle.config.specs.declared.Phase.TheVariants as Phase
 use Rattle.loader.specs.Run.{Ran, ran, run}
 use Rattle.record.specs.PowerOn.{Outcome}
 use Rattle.parts.specs.Table.{memory_at}

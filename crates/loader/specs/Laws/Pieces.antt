@@ -6,9 +6,7 @@ use borrow.Author.Tests.{eq-eqb, ne_eqb, eqb-true, eqb-false}
 use Rattle.record.specs.Consistency.{consistent}
 use Rattle.config.specs.PhaseTests.{is_stopped}
 use Rattle.config.specs.declared.Phase.{Phase}
-use Rattle.config.specs.declared.Phase.TheVariants as Phase
 use Rattle.answers.specs.declared.Refusal.{Refusal}
-use Rattle.answers.specs.declared.Refusal.TheVariants as Refusal
 use Rattle.answers.specs.declared.Stop.{Stop}
 use Rattle.loader.specs.Run.{byte_transition, record_after, memory_after, Ran, ran, after, run}
 use Rattle.record.specs.PowerOn.{Outcome}

@@ -9,7 +9,6 @@ use Rattle.config.specs.Laws.StaysSet.{byte_keeps}
 use Rattle.record.specs.Laws.EventPlaces.{EventFits, byte_placed}
 use Rattle.config.specs.declared.Control.{Control}
 use Rattle.config.specs.declared.Event.{Event}
-use Rattle.config.specs.declared.Event.TheVariants as Event
 use Rattle.loader.specs.EventEffects.{buffered}
 use Rattle.loader.specs.Run.{byte_transition, run}
 use Rattle.parts.specs.Table.{memory_at}

@@ -11,7 +11,6 @@ use Rattle.parts.specs.Table.{length_at}
 use Rattle.config.specs.PhaseTests.{is_stopped}
 use Rattle.config.specs.Laws.StaysSet.{byte_keeps}
 use Rattle.config.specs.declared.Event.{Event}
-use Rattle.config.specs.declared.Event.TheVariants as Event
 use Rattle.loader.specs.EventEffects.{store_within, buffered, stored}
 use Rattle.loader.specs.Run.{byte_transition, run}
 use Rattle.loader.specs.Load.{load}

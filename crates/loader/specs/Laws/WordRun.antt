@@ -10,12 +10,10 @@ use Rattle.words.specs.WordsInBytes.{word_of}
 use Rattle.config.specs.StreamBytes.{gathered}
 use Rattle.config.specs.DataWords.{word}
 use Rattle.config.specs.declared.PartialWord.{PartialWord}
-use Rattle.config.specs.declared.PartialWord.TheVariants as PartialWord
 use Rattle.config.specs.declared.Control.{Control}
 use Rattle.config.specs.declared.Phase.TheVariants as Phase
 use Rattle.answers.specs.declared.Stop.{Stop}
 use Rattle.config.specs.declared.Event.{Event}
-use Rattle.config.specs.declared.Event.TheVariants as Event
 use Rattle.config.specs.declared.Transition.{Transition}
 use Rattle.loader.specs.EventEffects.{buffered, stored}
 use Rattle.loader.specs.Run.{record_after, memory_after, Ran, ran, after, run}

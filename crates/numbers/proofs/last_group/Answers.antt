@@ -1,11 +1,7 @@
 -- `numbers::last_group` meets its contract: a last byte 0 is refused but where it is the first byte.
 -- By the tests that led to each return.
-use mathlib.Core.Path.{◌≡◌}
-use mathlib.Core.Bool.{false, not, ◌&&◌, and-false}
-use mathlib.Core.Logic.{⊎_elim}
+use mathlib.Core.Bool.{and-false}
 use native.Mathlib.Omega.{arith}
-use lib.Dec.{eqb}
-use borrow.Author.Rules.{rules}
 use borrow.Author.Tests.{eq-eqb, ne_eqb}
 use Rattle.numbers.specs.Number.{last_group}
 use Rattle.numbers.specs.Inner.Groups.{scaled}

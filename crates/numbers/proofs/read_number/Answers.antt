@@ -1,12 +1,10 @@
 -- `numbers::read_number` meets its contract. The invariant goes by what is left: the groups not yet read, over the value of those
 -- that were, give the number.
 use mathlib.Core.Path.{◌≡◌}
-use mathlib.Core.Logic.{⊎_elim}
-use Prim.Native.Nat.{ℕ, ◌-◌, ◌^◌, ◌≤◌}
+use Prim.Native.Nat.{ℕ, ◌^◌, ◌≤◌}
 use native.Mathlib.Omega.{arith}
-use lib.ListN.{length, get_or}
-use borrow.Author.Rules.{rules}
-use Rattle.numbers.specs.Inner.Groups.{GroupsRead, reading_start, reading_high, reading_last, reading_more, reading_weight, reading_end}
+use lib.ListN.{get_or}
+use Rattle.numbers.specs.Inner.Groups.{reading_start, reading_high, reading_last, reading_more, reading_weight, reading_end}
 use Rattle.numbers.proofs.read_number.Goals.{then-weight-eq-FIFTH_WEIGHT+else-x-gt15, else-weight-eq-FIFTH_WEIGHT}
 use Rattle.numbers.proofs.read_number.Goals as goal
 
@@ -48,10 +46,10 @@ pub returns-then-x-lt128 : goal.returns-then-x-lt128
 returns-then-x-lt128 c =
     let l = c.loop-i in
     let fifth : Fifth l.weight (get_or c.args.bytes.now l.i 0) =
-        λ e. elim c.if-weight-eq-FIFTH_WEIGHT.branch [
-          | then-weight-eq-FIFTH_WEIGHT+else-x-gt15 w ↦ omega arith
-          | else-weight-eq-FIFTH_WEIGHT w ↦ absurd (omega arith)
-        ] in
+    λ e. elim c.if-weight-eq-FIFTH_WEIGHT.branch [
+      | then-weight-eq-FIFTH_WEIGHT+else-x-gt15 w ↦ omega arith
+      | else-weight-eq-FIFTH_WEIGHT w ↦ absurd (omega arith)
+    ] in
     rw c.last_group.ensures (reading_last l.invariant (omega arith) (omega arith) fifth).1
 
 pub overflow_mul-low : goal.overflow_mul-low

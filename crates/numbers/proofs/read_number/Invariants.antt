@@ -1,12 +1,8 @@
 -- `numbers::read_number` meets its contract. The invariant goes by what is left: the groups not yet read, over the value of those
 -- that were, give the number.
-use mathlib.Core.Path.{◌≡◌}
-use mathlib.Core.Logic.{⊎_elim}
-use Prim.Native.Nat.{◌-◌, ◌^◌, ◌≤◌}
-use native.Mathlib.Omega.{arith}
-use lib.ListN.{length, get_or}
-use borrow.Author.Rules.{rules}
-use Rattle.numbers.specs.Inner.Groups.{GroupsRead, reading_start, reading_high, reading_last, reading_more, reading_weight, reading_end}
+use Prim.Native.Nat.{◌-◌}
+use lib.ListN.{length}
+use Rattle.numbers.specs.Inner.Groups.{GroupsRead}
 use Rattle.numbers.proofs.read_number.Given as goal
 
 abbrev pub invariant-loop-i : goal.invariant-loop-i

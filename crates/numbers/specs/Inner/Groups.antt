@@ -9,7 +9,6 @@ use native.Mathlib.Omega.{arith}
 use Rattle.answers.specs.declared.Refusal.TheVariants as Refusal
 use Rattle.numbers.specs.Number.{last_group, low_group, groups, number_at}
 use Rattle.numbers.specs.declared.Number.{Number}
-use Rattle.numbers.specs.declared.Number.TheVariants as Number
 
 -- the groups before have the value low, and the next group has this weight
 unfoldable pub scaled : ℕ → ℕ → Number → Number

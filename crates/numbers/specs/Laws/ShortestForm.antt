@@ -13,7 +13,6 @@ use Rattle.words.specs.Laws.ByteLists.{AreBytes, bytes_drop}
 use Rattle.answers.specs.declared.Refusal.{Refusal}
 use Rattle.numbers.specs.Number.{last_group, low_group, groups, number_at}
 use Rattle.numbers.specs.declared.Number.{Number}
-use Rattle.numbers.specs.declared.Number.TheVariants as Number
 
 -- 01: "groups of seven bits, low group first, top bit set on all but the last byte, shortest form only"; k bytes at most after the first
 unfoldable pub code_from : ℕ → ℕ → List ℕ

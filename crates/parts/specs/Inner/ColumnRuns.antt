@@ -14,9 +14,7 @@ use Rattle.parts.specs.Laws.ColumnLookup.{address_here, address_later, number_he
 use Rattle.parts.specs.declared.table.Part.{Part}
 use Rattle.parts.specs.declared.frame.Run.{Run}
 use Rattle.parts.specs.declared.frame.Search.{Search}
-use Rattle.parts.specs.declared.frame.Search.TheVariants as Search
 use Rattle.answers.specs.declared.Answer.{Answer}
-use Rattle.answers.specs.declared.Answer.TheVariants as Answer
 use Rattle.parts.specs.declared.frame.NumberAnswer.TheVariants as NumberAnswer
 
 -- every column of the run fits the fields of an address

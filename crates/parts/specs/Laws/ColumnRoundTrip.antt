@@ -8,9 +8,7 @@ use Rattle.parts.specs.FrameAddress.{address, block, major, minor, address_in, n
 use Rattle.parts.specs.Laws.ColumnLookup.{block_address, major_address, minor_address, address_here, address_later, number_here, number_later, names_frame, frame_names, fails}
 use Rattle.answers.specs.declared.Refusal.TheVariants as Refusal
 use Rattle.answers.specs.declared.Answer.{Answer}
-use Rattle.answers.specs.declared.Answer.TheVariants as Answer
 use Rattle.parts.specs.declared.frame.NumberAnswer.{NumberAnswer}
-use Rattle.parts.specs.declared.frame.NumberAnswer.TheVariants as NumberAnswer
 
 -- ---- the order of the columns
 

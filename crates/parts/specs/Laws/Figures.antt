@@ -8,7 +8,6 @@ use Rattle.parts.specs.Laws.KnownParts.{figure_known}
 use Rattle.parts.specs.Laws.FramePlacing.{frame_end}
 use Rattle.parts.specs.declared.table.Part.{Part}
 use Rattle.parts.specs.declared.table.PartAnswer.{PartAnswer}
-use Rattle.parts.specs.declared.table.PartAnswer.TheVariants as PartAnswer
 
 pub record Figures (d : ℕ) : Type 0 where
   pub part : Part

@@ -1,6 +1,6 @@
 -- The columns of a part stand in order and have F frames, and so frame number and frame address give each other.
 -- Over C and B alone: each run of columns is in order and counts its frames, by induction on its length.
-use Rattle.std.specs.Prelude.{◌≡◌, ℕ, zero, suc, ◌+◌, ◌-◌, ◌^◌, ◌≤◌, ◌<◌}
+use Rattle.std.specs.Prelude.{◌≡◌, ℕ, zero, suc, ◌+◌, ◌^◌, ◌≤◌, ◌<◌}
 use Rattle.std.proofs.Common.{◌∙◌, sym, lt-ltb, le-ltb}
 use Rattle.std.proofs.Math.Path.{refl, ap}
 use mathlib.Core.List.{List, [], ◌∷◌, ◌++◌}
@@ -17,11 +17,8 @@ use Rattle.parts.specs.Inner.ColumnRuns.{run_total}
 use Rattle.parts.specs.Laws.ColumnRoundTrip.{place, InOrder, number_of_address, address_of_number, address_below, address_outside}
 use Rattle.parts.specs.declared.table.Part.{Part}
 use Rattle.parts.specs.declared.table.PartAnswer.{PartAnswer}
-use Rattle.parts.specs.declared.table.PartAnswer.TheVariants as PartAnswer
 use Rattle.answers.specs.declared.Answer.{Answer}
-use Rattle.answers.specs.declared.Answer.TheVariants as Answer
 use Rattle.parts.specs.declared.frame.NumberAnswer.{NumberAnswer}
-use Rattle.parts.specs.declared.frame.NumberAnswer.TheVariants as NumberAnswer
 
 weaken : (from from' : ℕ) (cs : List Column) → from ≤ from' → InOrder from' cs → InOrder from cs
 weaken from from' [] h o = tt

@@ -5,7 +5,6 @@ use Rattle.answers.specs.declared.Refusal.{Refusal}
 use Rattle.parts.specs.Table.{part_of, figure_of, figure}
 use Rattle.parts.specs.declared.table.Part.{Part}
 use Rattle.parts.specs.declared.table.PartAnswer.{PartAnswer}
-use Rattle.parts.specs.declared.table.PartAnswer.TheVariants as PartAnswer
 
 pub figure_known : (f : Part → ℕ) (d : ℕ) (q : PartAnswer) (p : Part) → q ≡ part_of d → q ≡ PartAnswer.Known p → f p ≡ figure f d
 unfolding figure_of

@@ -7,7 +7,6 @@ use Rattle.std.proofs.Math.Decide.{dec_lt}
 use Rattle.parts.specs.Table.{part, parts, part_of, idcode_of, frame_length, frame_count, memory_length}
 use Rattle.parts.specs.declared.table.Part.{Part}
 use Rattle.parts.specs.declared.table.PartAnswer.{PartAnswer}
-use Rattle.parts.specs.declared.table.PartAnswer.TheVariants as PartAnswer
 
 -- 01, "The eight parts": the column "words a frame"
 pub frame_lengths : map frame_length parts ≡ 37 ∷ 53 ∷ 69 ∷ 101 ∷ 133 ∷ 165 ∷ 197 ∷ 213 ∷ []

@@ -1,11 +1,7 @@
 -- `record::consistent` meets its contract: each test of the code is an item of the definition.
 -- By computation, with the tests that led to each answer.
-use mathlib.Core.Path.{◌≡◌, ◌∙◌, sym}
-use mathlib.Core.Bool.{true, ◌&&◌}
-use lib.Dec.{leb}
 use borrow.Author.Rules.{rules}
-use borrow.Author.Tests.{lt-ltb, le-ltb, le-leb, lt-leb, not-true, not-false}
-use Rattle.record.specs.Consistency.{current_fits, consistent}
+use Rattle.record.specs.Consistency.{consistent}
 use Rattle.record.proofs.consistent.Goals as goal
 
 pub returns-then-control-gt7 : goal.returns-then-control-gt7

@@ -1,7 +1,6 @@
 -- `record::power_on` meets its contract. By cases: the part is unknown, or its memory has another length, or the memory is cleared.
 -- In each the law of the case gives the definition's outcome.
 use mathlib.Core.Path.{◌∙◌, ap}
-use borrow.Author.Rules.{rules}
 use Rattle.record.specs.PowerOn.{Outcome}
 use Rattle.record.specs.Laws.FreshRecord.{power_no_part, power_wrong_memory, power_done}
 use Rattle.record.proofs.power_on.Goals as goal

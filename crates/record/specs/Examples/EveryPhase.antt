@@ -17,7 +17,6 @@ use Rattle.config.specs.DataWords.{ended, onward, cmd_word, fdri_word, idcode_wo
 use Rattle.config.specs.StreamBytes.{is_sync, hunted, gathered, byte}
 use Rattle.config.specs.declared.PartialWord.TheVariants as PartialWord
 use Rattle.config.specs.declared.Phase.{Phase}
-use Rattle.config.specs.declared.Phase.TheVariants as Phase
 use Rattle.config.specs.declared.Event.TheVariants as Event
 use Rattle.config.specs.declared.Transition.{Transition}
 use Rattle.record.specs.Consistency.{current_fits, data_fits, phase_fits, consistent}

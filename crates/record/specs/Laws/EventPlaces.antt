@@ -20,17 +20,12 @@ use Rattle.record.specs.Consistency.{current_fits, data_fits, phase_fits, consis
 use Rattle.config.specs.Laws.StaysSet.{header_plain}
 use Rattle.record.specs.Laws.StaysConsistent.{Consistent, to_items, to_filling, partial_fine}
 use Rattle.registers.specs.declared.Register.{Register}
-use Rattle.registers.specs.declared.Register.TheVariants as Register
 use Rattle.config.specs.declared.Open.{Open}
 use Rattle.config.specs.declared.Current.{Current}
-use Rattle.config.specs.declared.Current.TheVariants as Current
 use Rattle.config.specs.declared.PartialWord.{PartialWord}
-use Rattle.config.specs.declared.PartialWord.TheVariants as PartialWord
 use Rattle.config.specs.declared.Control.{Control}
 use Rattle.config.specs.declared.Phase.{Phase}
-use Rattle.config.specs.declared.Phase.TheVariants as Phase
 use Rattle.config.specs.declared.Event.{Event}
-use Rattle.config.specs.declared.Event.TheVariants as Event
 use Rattle.config.specs.declared.Transition.{Transition}
 
 pub header_quiet : (o : Open) (c : Control) (w : ℕ) → (header_word o c w).event ≡ Event.Nothing

@@ -7,9 +7,7 @@ use Rattle.parts.specs.Table.{part_of, frame_count, count_at, memory_at}
 use Rattle.parts.specs.Laws.Figures.{figures}
 use Rattle.parts.specs.declared.table.Part.{Part}
 use Rattle.parts.specs.declared.table.PartAnswer.{PartAnswer}
-use Rattle.parts.specs.declared.table.PartAnswer.TheVariants as PartAnswer
 use Rattle.answers.specs.declared.Refusal.{Refusal}
-use Rattle.answers.specs.declared.Refusal.TheVariants as Refusal
 use Rattle.answers.specs.declared.LoadAnswer.TheVariants as LoadAnswer
 use Rattle.record.specs.Consistency.{current_fits, phase_fits, consistent}
 use Rattle.record.specs.PowerOn.{fresh_control, fresh, not_powered, powered, power_on}

@@ -15,7 +15,6 @@ use Rattle.parts.specs.Laws.Figures.{figures}
 use Rattle.parts.specs.FrameAddress.{frame_number}
 use Rattle.parts.specs.Laws.FrameNumbers.{number_below}
 use Rattle.parts.specs.declared.frame.NumberAnswer.{NumberAnswer}
-use Rattle.parts.specs.declared.frame.NumberAnswer.TheVariants as NumberAnswer
 use Rattle.config.specs.CurrentFrame.{current_from, named}
 use Rattle.registers.specs.RegisterAddresses.{address_of, is_fdri, is_mfwr, is_lout, register_at}
 use Rattle.registers.specs.CommandCodes.{RCRC, DESYNC, last_command}
@@ -27,24 +26,16 @@ use Rattle.config.specs.DataWords.{ended, onward, put, checked, crc_word, far_wo
 use Rattle.config.specs.StreamBytes.{is_sync, hunted, gathered, byte}
 use Rattle.record.specs.Consistency.{current_fits, data_fits, phase_fits, consistent}
 use Rattle.registers.specs.declared.RegisterAnswer.{RegisterAnswer}
-use Rattle.registers.specs.declared.RegisterAnswer.TheVariants as RegisterAnswer
 use Rattle.registers.specs.declared.Register.{Register}
-use Rattle.registers.specs.declared.Register.TheVariants as Register
 use Rattle.config.specs.declared.Registers.{Registers}
 use Rattle.config.specs.declared.Open.{Open}
-use Rattle.config.specs.declared.Open.TheVariants as Open
 use Rattle.config.specs.declared.PacketHeader.{PacketHeader}
-use Rattle.config.specs.declared.PacketHeader.TheVariants as PacketHeader
 use Rattle.config.specs.declared.Flags.{Flags}
 use Rattle.config.specs.declared.Current.{Current}
-use Rattle.config.specs.declared.Current.TheVariants as Current
 use Rattle.config.specs.declared.PartialWord.{PartialWord}
-use Rattle.config.specs.declared.PartialWord.TheVariants as PartialWord
 use Rattle.config.specs.declared.Control.{Control}
 use Rattle.config.specs.declared.Phase.{Phase}
-use Rattle.config.specs.declared.Phase.TheVariants as Phase
 use Rattle.answers.specs.declared.Stop.{Stop}
-use Rattle.answers.specs.declared.Stop.TheVariants as Stop
 use Rattle.config.specs.declared.Transition.{Transition}
 
 -- ---- the items, by name

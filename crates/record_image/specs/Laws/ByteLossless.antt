@@ -25,21 +25,14 @@ use Rattle.record.specs.Laws.StaysConsistent.{to_items, byte_consistent}
 use Rattle.record.specs.Laws.EventPlaces.{Asked, word_asked}
 use Rattle.answers.specs.declared.Stop.{Stop}
 use Rattle.registers.specs.declared.RegisterAnswer.{RegisterAnswer}
-use Rattle.registers.specs.declared.RegisterAnswer.TheVariants as RegisterAnswer
 use Rattle.registers.specs.declared.Register.{Register}
-use Rattle.registers.specs.declared.Register.TheVariants as Register
 use Rattle.config.specs.declared.PacketHeader.{PacketHeader}
-use Rattle.config.specs.declared.PacketHeader.TheVariants as PacketHeader
 use Rattle.config.specs.declared.PartialWord.{PartialWord}
-use Rattle.config.specs.declared.PartialWord.TheVariants as PartialWord
 use Rattle.config.specs.declared.Current.{Current}
-use Rattle.config.specs.declared.Current.TheVariants as Current
 use Rattle.config.specs.declared.Registers.{Registers}
 use Rattle.config.specs.declared.Control.{Control}
 use Rattle.config.specs.declared.Phase.{Phase}
-use Rattle.config.specs.declared.Phase.TheVariants as Phase
 use Rattle.config.specs.declared.Event.{Event}
-use Rattle.config.specs.declared.Event.TheVariants as Event
 use Rattle.config.specs.declared.Transition.{Transition}
 use Rattle.record.specs.declared.Record.{Record}
 use Rattle.record_image.specs.Image.{register_words}

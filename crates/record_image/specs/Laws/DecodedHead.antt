@@ -10,16 +10,11 @@ use Rattle.registers.specs.Laws.AddressLookup.{register_address}
 use Rattle.answers.specs.StopsAndRefusals.{stop_number}
 use Rattle.registers.specs.declared.Register.{Register}
 use Rattle.config.specs.declared.Open.{Open}
-use Rattle.config.specs.declared.Open.TheVariants as Open
 use Rattle.answers.specs.declared.Stop.{Stop}
-use Rattle.answers.specs.declared.Stop.TheVariants as Stop
 use Rattle.config.specs.declared.PartialWord.{PartialWord}
-use Rattle.config.specs.declared.PartialWord.TheVariants as PartialWord
 use Rattle.config.specs.declared.Current.{Current}
-use Rattle.config.specs.declared.Current.TheVariants as Current
 use Rattle.config.specs.declared.Flags.{Flags}
 use Rattle.config.specs.declared.Phase.{Phase}
-use Rattle.config.specs.declared.Phase.TheVariants as Phase
 use Rattle.record_image.specs.Image.{phase_number, open_number, argument, words_left, words_filled, pending, bytes_count, bytes_number, current_number, flag_bit, flag_bits}
 use Rattle.record_image.specs.Decode.{open_after, open_of, register_found, register_of, stop_of, pending_of, phase_of, partial_of, current_of, flags_of}
 use Rattle.record_image.specs.Laws.KeptRecord.{PartialBytes, PhaseInRange, kept_phase, kept_partial, kept_current}

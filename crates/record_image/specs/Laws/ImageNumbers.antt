@@ -6,16 +6,11 @@ use Rattle.registers.specs.RegisterAddresses.{is_fdri}
 use Rattle.registers.specs.Laws.AddressLookup.{address_bound}
 use Rattle.answers.specs.StopsAndRefusals.{stop_number}
 use Rattle.config.specs.declared.Open.{Open}
-use Rattle.config.specs.declared.Open.TheVariants as Open
 use Rattle.answers.specs.declared.Stop.{Stop}
-use Rattle.answers.specs.declared.Stop.TheVariants as Stop
 use Rattle.config.specs.declared.PartialWord.{PartialWord}
-use Rattle.config.specs.declared.PartialWord.TheVariants as PartialWord
 use Rattle.config.specs.declared.Current.{Current}
-use Rattle.config.specs.declared.Current.TheVariants as Current
 use Rattle.config.specs.declared.Flags.{Flags}
 use Rattle.config.specs.declared.Phase.{Phase}
-use Rattle.config.specs.declared.Phase.TheVariants as Phase
 use Rattle.record.specs.declared.Record.{Record}
 use Rattle.record_image.specs.Image.{phase_number, argument, words_left, words_filled, pending, bytes_count, bytes_number, current_number, flag_bit, flag_bits, head_words}
 use Rattle.words.specs.Laws.ByteLists.{AreWords}

@@ -7,10 +7,8 @@ use borrow.Author.Tests.{eq-eqb, eqb-true}
 use Rattle.std.proofs.Math.Seq.{drop_at}
 use Rattle.registers.specs.RegisterAddresses.{is_fdri}
 use Rattle.config.specs.declared.Current.{Current}
-use Rattle.config.specs.declared.Current.TheVariants as Current
 use Rattle.config.specs.declared.Control.{Control}
 use Rattle.config.specs.declared.Phase.{Phase}
-use Rattle.config.specs.declared.Phase.TheVariants as Phase
 use Rattle.words.specs.WordsInBytes.{bytes_of, words_at, starts}
 use Rattle.words.specs.Laws.ByteLists.{AreWords, words_join}
 use Rattle.words.specs.Laws.WordBytes.{bytes_length, bytes_append, words_length, words_bytes, word_of_words}

@@ -4,12 +4,9 @@ use Rattle.std.specs.Prelude.{◌^◌, ◌<◌, ◌≡◌, cond, eqb, length as 
 use Rattle.words.specs.Laws.ByteLists.{AreWords}
 use Rattle.registers.specs.RegisterAddresses.{is_fdri}
 use Rattle.config.specs.declared.PartialWord.{PartialWord}
-use Rattle.config.specs.declared.PartialWord.TheVariants as PartialWord
 use Rattle.config.specs.declared.Current.{Current}
-use Rattle.config.specs.declared.Current.TheVariants as Current
 use Rattle.config.specs.declared.Control.{Control}
 use Rattle.config.specs.declared.Phase.{Phase}
-use Rattle.config.specs.declared.Phase.TheVariants as Phase
 use Rattle.record.specs.declared.Record.{Record}
 use Rattle.record_image.specs.Image.{register_words}
 

@@ -9,10 +9,8 @@ use Rattle.registers.specs.RegisterAddresses.{is_fdri, is_mfwr}
 use Rattle.parts.specs.Table.{length_at}
 use Rattle.record.specs.Consistency.{current_fits, data_fits, phase_fits, consistent}
 use Rattle.config.specs.declared.Current.{Current}
-use Rattle.config.specs.declared.Current.TheVariants as Current
 use Rattle.config.specs.declared.Control.{Control}
 use Rattle.config.specs.declared.Phase.{Phase}
-use Rattle.config.specs.declared.Phase.TheVariants as Phase
 use Rattle.record.specs.declared.Record.{Record}
 use Rattle.record_image.specs.Image.{image}
 use Rattle.record_image.specs.Decode.{decoded}

@@ -4,12 +4,9 @@ use Rattle.std.specs.Prelude.{◌≡◌, cond, ◌^◌, ◌<◌}
 use Rattle.words.specs.Laws.ByteLists.{AreWords}
 use Rattle.registers.specs.RegisterAddresses.{is_fdri}
 use Rattle.config.specs.declared.PartialWord.{PartialWord}
-use Rattle.config.specs.declared.PartialWord.TheVariants as PartialWord
 use Rattle.config.specs.declared.Control.{Control}
 use Rattle.config.specs.declared.Phase.{Phase}
-use Rattle.config.specs.declared.Phase.TheVariants as Phase
 use Rattle.config.specs.declared.Event.{Event}
-use Rattle.config.specs.declared.Event.TheVariants as Event
 use Rattle.record_image.specs.Image.{register_words}
 use Rattle.record_image.specs.Laws.KeptRecord.{PartialBytes}
 

@@ -1,10 +1,9 @@
 -- `words::has_all` meets its contract. The invariant goes by what is left: comparing the words not yet compared gives what comparing
 -- all of them gives. The measure is what is left of the words.
-use mathlib.Core.Path.{◌≡◌, ◌∙◌, sym}
-use Prim.Native.Nat.{◌+◌, ◌*◌, ◌-◌, ◌≤◌}
+use mathlib.Core.Path.{◌∙◌, sym}
+use Prim.Native.Nat.{◌+◌, ◌*◌}
 use native.Mathlib.Omega.{arith}
-use lib.ListN.{length, get_or, drop}
-use Rattle.words.specs.WordsInBytes.{has_words}
+use lib.ListN.{get_or}
 use Rattle.words.specs.Laws.ByteLists.{all_bytes}
 use Rattle.words.specs.Laws.WordTests.{has_next, has_done, has_word, has_other}
 use Rattle.words.proofs.has_all.Goals as goal

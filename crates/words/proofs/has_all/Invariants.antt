@@ -1,12 +1,9 @@
 -- `words::has_all` meets its contract. The invariant goes by what is left: comparing the words not yet compared gives what comparing
 -- all of them gives. The measure is what is left of the words.
-use mathlib.Core.Path.{◌≡◌, ◌∙◌, sym}
+use mathlib.Core.Path.{◌≡◌}
 use Prim.Native.Nat.{◌+◌, ◌*◌, ◌-◌, ◌≤◌}
-use native.Mathlib.Omega.{arith}
-use lib.ListN.{length, get_or, drop}
+use lib.ListN.{length, drop}
 use Rattle.words.specs.WordsInBytes.{has_words}
-use Rattle.words.specs.Laws.ByteLists.{all_bytes}
-use Rattle.words.specs.Laws.WordTests.{has_next, has_done, has_word, has_other}
 use Rattle.words.proofs.has_all.Given as goal
 
 abbrev pub invariant-loop-i : goal.invariant-loop-i

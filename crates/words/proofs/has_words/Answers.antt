@@ -3,7 +3,6 @@
 use mathlib.Core.Path.{sym}
 use native.Mathlib.Omega.{arith}
 use Rattle.words.specs.Laws.WordTests.{has_past, has_short}
-use borrow.Author.Rules.{rules}
 use Rattle.words.proofs.has_words.Goals as goal
 
 pub returns-then-bytes-at : goal.returns-then-bytes-at

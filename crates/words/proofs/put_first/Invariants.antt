@@ -1,12 +1,9 @@
 -- `words::put_first` meets its contract. The invariant goes by what is left: the words not yet written give what all of them give.
 -- The measure is what is left of the words.
-use mathlib.Core.Path.{◌≡◌, ◌∙◌, sym, refl}
+use mathlib.Core.Path.{◌≡◌}
 use Prim.Native.Nat.{◌+◌, ◌*◌, ◌-◌, ◌≤◌}
-use native.Mathlib.Omega.{arith}
 use lib.ListN.{length, take, drop}
-use lib.Seq.{length-take-le, get_or-take}
 use Rattle.words.specs.WordsInBytes.{put_words}
-use Rattle.words.specs.Laws.WordStores.{put_next, put_done}
 use Rattle.words.proofs.put_first.Given as goal
 
 abbrev pub invariant-loop-i : goal.invariant-loop-i

@@ -5,7 +5,6 @@ use mathlib.Core.List.{[], ◌∷◌}
 use lib.Pow.{shr_mod}
 use Rattle.words.specs.WordsInBytes.{bytes_of}
 use Rattle.words.specs.Laws.WordStores.{sets_past, put_bytes}
-use borrow.Author.Rules.{rules}
 use Rattle.words.proofs.put_last.Goals as goal
 
 pub returns-then-bytes-at : goal.returns-then-bytes-at

@@ -1,11 +1,9 @@
 -- `words::put_words` meets its contract: all words where they have room, else those that have, and a part of one more.
 -- By what `put_first` and `put_last` ensure, and the laws of stores past the end.
-use mathlib.Core.Path.{◌∙◌, sym}
+use mathlib.Core.Path.{sym}
 use native.Mathlib.Omega.{arith}
-use lib.Seq.{take-length}
 use Rattle.words.specs.WordsInBytes.{bytes_of}
 use Rattle.words.specs.Laws.WordStores.{sets_past, put_short}
-use borrow.Author.Rules.{rules}
 use Rattle.words.proofs.put_words.Goals as goal
 
 pub returns-then-bytes-at : goal.returns-then-bytes-at

@@ -1,6 +1,5 @@
 -- `config::command::act` meets its contract: phase, CRC and flags after the command.
 -- By computation, from what the three parts ensure.
-use borrow.Author.Rules.{rules}
 use Rattle.config.specs.Commands.{acted}
 use Rattle.config.proofs.command.act.Goals as goal
 

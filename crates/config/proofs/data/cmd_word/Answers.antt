@@ -1,6 +1,5 @@
 -- `config::data::cmd_word` meets its contract: stop 10 above 13, else the command acts.
 -- By the contracts of the calls, with the test that led to each answer.
-use borrow.Author.Rules.{rules}
 use borrow.Author.Tests.{lt-ltb, le-ltb}
 use Rattle.config.specs.DataWords.{cmd_word}
 use Rattle.config.proofs.data.cmd_word.Goals as goal

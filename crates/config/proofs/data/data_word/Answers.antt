@@ -1,6 +1,5 @@
 -- `config::data::data_word` meets its contract: a data word to each register.
 -- By the contract of the register's call, once the register is known.
-use borrow.Author.Rules.{rules}
 use Rattle.config.specs.DataWords.{data_word}
 use Rattle.config.proofs.data.data_word.Goals as goal
 

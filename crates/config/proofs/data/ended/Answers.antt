@@ -1,6 +1,5 @@
 -- `config::data::ended` meets its contract: the auto CRC word after FDRI, a header after any other register.
 -- From what the test ensures.
-use borrow.Author.Rules.{rules}
 use Rattle.config.specs.DataWords.{ended}
 use Rattle.config.proofs.data.ended.Goals as goal
 

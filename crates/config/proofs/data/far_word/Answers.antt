@@ -1,6 +1,5 @@
 -- `config::data::far_word` meets its contract: the command acts again, on the record with the word and the frame it names.
 -- By the contracts of the calls.
-use borrow.Author.Rules.{rules}
 use Rattle.config.specs.DataWords.{far_word}
 use Rattle.config.proofs.data.far_word.Goals as goal
 

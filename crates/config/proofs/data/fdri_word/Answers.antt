@@ -1,6 +1,5 @@
 -- `config::data::fdri_word` meets its contract: the packet's last word, a word inside a frame, or one that completes it.
 -- By the contracts of the calls, with the tests that led to each answer.
-use borrow.Author.Rules.{rules}
 use borrow.Author.Tests.{lt-ltb, le-ltb, le-leb, lt-leb}
 use Rattle.registers.specs.RegisterAddresses.{address_of}
 use Rattle.config.specs.ControlState.{raised}

@@ -1,6 +1,5 @@
 -- `config::data::flr_word` meets its contract: the part's frame length less 1 is accepted, any other is stop 5.
 -- By the contracts of the calls, with the test that led to each answer.
-use borrow.Author.Rules.{rules}
 use borrow.Author.Tests.{eq-eqb, ne_eqb}
 use Rattle.registers.specs.RegisterAddresses.{address_of}
 use Rattle.config.specs.ControlState.{raised}

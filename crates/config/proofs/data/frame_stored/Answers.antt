@@ -1,6 +1,5 @@
 -- `config::data::frame_stored` meets its contract: the frame is stored at the current one, which steps on; stop 9 where there is none.
 -- By the contracts of the calls, in each case of the current frame.
-use borrow.Author.Rules.{rules}
 use Rattle.config.specs.DataWords.{frame_stored}
 use Rattle.config.proofs.data.frame_stored.Goals as goal
 

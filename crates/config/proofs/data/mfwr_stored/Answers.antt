@@ -1,6 +1,5 @@
 -- `config::data::mfwr_stored` meets its contract: the frame in hand is stored at the current one; stop 9 where there is none.
 -- By the contracts of the calls, in each case of the current frame.
-use borrow.Author.Rules.{rules}
 use Rattle.config.specs.DataWords.{mfwr_stored}
 use Rattle.config.proofs.data.mfwr_stored.Goals as goal
 

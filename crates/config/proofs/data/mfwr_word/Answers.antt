@@ -1,6 +1,5 @@
 -- `config::data::mfwr_word` meets its contract: the packet's last word stores, one before it is written.
 -- By the contracts of the calls, with the test that led to each answer.
-use borrow.Author.Rules.{rules}
 use borrow.Author.Tests.{le-leb, lt-leb}
 use Rattle.config.specs.DataWords.{mfwr_word}
 use Rattle.config.proofs.data.mfwr_word.Goals as goal

@@ -1,6 +1,5 @@
 -- `config::data::named` meets its contract: the frame that the address names, or none.
 -- By computation, once the answer is known, from what `frame_number` ensures of it.
-use borrow.Author.Rules.{rules}
 use Rattle.config.specs.CurrentFrame.{current_from}
 use Rattle.config.proofs.data.named.Goals as goal
 

@@ -1,6 +1,5 @@
 -- `config::data::onward` meets its contract: the packet goes on while words are left, then ends.
 -- By computation, with the test that led to each answer.
-use borrow.Author.Rules.{rules}
 use borrow.Author.Tests.{le-leb, lt-leb}
 use Rattle.config.specs.DataWords.{onward}
 use Rattle.config.proofs.data.onward.Goals as goal

@@ -1,6 +1,5 @@
 -- `config::data::stepped` meets its contract: the next frame, or none after the last.
 -- By computation, with the test that led to each answer.
-use borrow.Author.Rules.{rules}
 use borrow.Author.Tests.{lt-ltb, le-ltb}
 use Rattle.config.specs.DataWords.{stepped}
 use Rattle.config.proofs.data.stepped.Goals as goal

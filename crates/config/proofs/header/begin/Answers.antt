@@ -1,6 +1,5 @@
 -- `config::header::begin` meets its contract: a write begins, or stops by check 6, then 7.
 -- By computation, with what the two checks ensure and which way each went.
-use borrow.Author.Rules.{rules}
 use Rattle.config.specs.PacketHeaders.{begin}
 use Rattle.config.proofs.header.begin.Goals as goal
 

@@ -1,7 +1,6 @@
 -- `config::header::counted` meets its contract: FDRI takes whole frames and MFWR two words.
 -- From what the tests ensure; a remainder by 0 is the number itself.
 use native.Mathlib.Nat.{mod-zero}
-use borrow.Author.Rules.{rules}
 use Rattle.config.specs.PacketHeaders.{counted}
 use Rattle.config.proofs.header.counted.Goals as goal
 

@@ -1,7 +1,6 @@
 -- `config::header::obey` meets its contract: what each kind of header does.
 -- By computation, once the case is known, from what the called functions ensure.
 use borrow.Author.Tests.{eq-eqb, ne_eqb}
-use borrow.Author.Rules.{rules}
 use Rattle.config.specs.PacketHeaders.{obeyed}
 use Rattle.config.proofs.header.obey.Goals as goal
 

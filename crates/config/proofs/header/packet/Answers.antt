@@ -1,7 +1,6 @@
 -- `config::header::packet` meets its contract: a header word by its type.
 -- By computation, with the tests that led to each answer and what the called function ensures.
 use borrow.Author.Tests.{eq-eqb, ne_eqb}
-use borrow.Author.Rules.{rules}
 use Rattle.config.specs.PacketHeaders.{packet}
 use Rattle.config.proofs.header.packet.Goals as goal
 

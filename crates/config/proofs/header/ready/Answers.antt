@@ -1,10 +1,6 @@
 -- `config::header::ready` meets its contract: what FDRI and MFWR need before a write.
 -- From what the tests ensure, once each `and` of the code is that of the definition.
 -- Each `and` whose value the code keeps is the definition's.
-use mathlib.Core.Bool.{◌&&◌}
-use mathlib.Core.Logic.{⊎_elim}
-use mathlib.Core.Path.{◌≡◌, ◌∙◌}
-use lib.Dec.{eqb}
 use borrow.Author.Rules.{rules}
 use Rattle.config.specs.PacketHeaders.{ready}
 use Rattle.config.proofs.header.ready.Goals as goal

@@ -1,7 +1,6 @@
 -- `config::header::type2` meets its contract: what a type 2 header asks of the open register.
 -- By computation, once the case is known, with the tests that led to each answer.
 use borrow.Author.Tests.{eq-eqb, ne_eqb}
-use borrow.Author.Rules.{rules}
 use Rattle.config.specs.PacketHeaders.{type2}
 use Rattle.config.proofs.header.type2.Goals as goal
 

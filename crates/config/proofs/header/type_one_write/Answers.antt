@@ -1,7 +1,6 @@
 -- `config::header::type_one_write` meets its contract: a count of 0 opens the register, any other begins a write.
 -- By computation, once the case is known, with the test of the count.
 use borrow.Author.Tests.{eq-eqb, ne_eqb}
-use borrow.Author.Rules.{rules}
 use Rattle.config.specs.PacketHeaders.{type_one_write}
 use Rattle.config.proofs.header.type_one_write.Goals as goal
 

@@ -1,6 +1,5 @@
 -- `config::stream::gathered` meets its contract: one byte more of the partial word, or the word that it completes.
 -- By the contracts of the calls, once the partial word is known.
-use borrow.Author.Rules.{rules}
 use Rattle.config.specs.StreamBytes.{gathered}
 use Rattle.config.proofs.stream.gathered.Goals as goal
 

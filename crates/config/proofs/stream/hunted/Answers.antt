@@ -1,6 +1,5 @@
 -- `config::stream::hunted` meets its contract: the window takes the byte, or the sync word is whole.
 -- By computation, once the window is known.
-use borrow.Author.Rules.{rules}
 use Rattle.config.specs.StreamBytes.{hunted}
 use Rattle.config.proofs.stream.hunted.Goals as goal
 

@@ -1,6 +1,5 @@
 -- `config::writes::hold` meets its contract: the word stands in its register.
 -- By computation, once the register is known.
-use borrow.Author.Rules.{rules}
 use Rattle.registers.specs.RegisterAddresses.{address_of}
 use Rattle.config.specs.RegisterWrites.{hold}
 use Rattle.config.proofs.writes.hold.Goals as goal

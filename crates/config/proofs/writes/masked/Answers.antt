@@ -1,7 +1,6 @@
 -- `config::writes::masked` meets its contract: the bits of CTL that MASK lets through.
 -- By computation; the difference fits since MASK is a word of 32 bits.
 use mathlib.Core.Path.{refl}
-use borrow.Author.Rules.{rules}
 use Rattle.config.specs.RegisterWrites.{masked}
 use Rattle.config.proofs.writes.masked.Goals as goal
 

@@ -1,6 +1,5 @@
 -- `config::writes::write` meets its contract: the word is fed to the CRC unless it is for LOUT, then held.
 -- From what the test and the calls ensure.
-use borrow.Author.Rules.{rules}
 use Rattle.config.specs.RegisterWrites.{fed_crc}
 use Rattle.config.proofs.writes.write.Goals as goal
 

@@ -2,10 +2,9 @@
 -- give what all of them give. A turn is the first of the words that are left, fed through the table: a law says that this is `feed`.
 use mathlib.Core.Path.{◌≡◌}
 use mathlib.Core.List.{List, ◌∷◌}
-use Prim.Native.Nat.{ℕ, suc, ◌+◌, ◌-◌, ◌*◌, ◌≤◌, ◌<◌}
-use native.Mathlib.Nat.{sub-zero, add-zero, add_assoc}
+use Prim.Native.Nat.{ℕ, suc, ◌+◌, ◌-◌, ◌*◌, ◌<◌}
+use native.Mathlib.Nat.{add_assoc}
 use native.Mathlib.Omega.{arith}
-use borrow.Author.Rules.{rules}
 use Rattle.crc16.specs.CrcRegister.{fed_words}
 use Rattle.crc16.specs.Laws.NibbleLookup.{feed_with_entries}
 use Rattle.words.specs.WordsInBytes.{word_at, words_from, words_at}

@@ -1,15 +1,9 @@
 -- `loader::fill::fill` meets its contract. The invariant goes by what is left: the words not yet passed, fed and kept from here on,
 -- give what all of them give. A turn is the first of the words that are left, fed through the table: a law says that this is `feed`.
 use mathlib.Core.Path.{◌≡◌}
-use mathlib.Core.List.{List, ◌∷◌}
-use Prim.Native.Nat.{ℕ, suc, ◌+◌, ◌-◌, ◌*◌, ◌≤◌, ◌<◌}
-use native.Mathlib.Nat.{sub-zero, add-zero, add_assoc}
-use native.Mathlib.Omega.{arith}
-use borrow.Author.Rules.{rules}
+use Prim.Native.Nat.{◌+◌, ◌-◌, ◌*◌, ◌≤◌}
 use Rattle.crc16.specs.CrcRegister.{fed_words}
-use Rattle.crc16.specs.Laws.NibbleLookup.{feed_with_entries}
-use Rattle.words.specs.WordsInBytes.{word_at, words_from, words_at}
-use Rattle.words.specs.Laws.WordReads.{words_next}
+use Rattle.words.specs.WordsInBytes.{words_at}
 use Rattle.loader.specs.Inner.FillWords.{last_of, kept_all}
 use Rattle.loader.proofs.fill.fill.Given as goal
 

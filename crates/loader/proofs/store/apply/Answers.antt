@@ -1,6 +1,5 @@
 -- `loader::store::apply` meets its contract: each arm does what the definition does to the buffer and to the memory.
 -- By computation, once the event is known, from what `keep` and `store_within` ensure.
-use borrow.Author.Rules.{rules}
 use Rattle.loader.specs.EventEffects.{buffered, stored}
 use Rattle.loader.proofs.store.apply.Goals as goal
 

@@ -1,11 +1,8 @@
 -- `loader::store::store_within` meets its contract. Where the frame fits, the words written are the frame stored.
-use mathlib.Core.Path.{◌∙◌, sym}
-use Prim.Native.Nat.{◌+◌, ◌*◌, ◌≤◌}
-use native.Mathlib.Nat.{mul-le-mul}
+use mathlib.Core.Path.{◌∙◌}
+use Prim.Native.Nat.{◌+◌, ◌*◌}
 use native.Mathlib.Omega.{arith}
 use lib.ListN.{length}
-use lib.Seq.{length-take-le}
-use borrow.Author.Rules.{rules}
 use borrow.Author.Tests.{le-leb, lt-leb}
 use Rattle.loader.specs.EventEffects.{store_within}
 use Rattle.parts.specs.Laws.FramePlacing.{placed_sets}

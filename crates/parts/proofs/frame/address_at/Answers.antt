@@ -1,9 +1,6 @@
 -- `parts::frame::address_at` meets its contract: what the lookup tells is a word, so that nothing of it is cut off.
 -- By the law that every address has 27 bits.
 use native.Mathlib.Omega.{arith}
-use borrow.Author.Rules.{rules}
-use mathlib.Core.Path.{◌∙◌, ap}
-use Rattle.answers.specs.AnswerNumbers.{answer_value}
 use Rattle.parts.specs.Laws.FrameNumbers.{told_small}
 use Rattle.parts.proofs.frame.address_at.Goals as goal
 

@@ -1,13 +1,10 @@
 -- `parts::frame::address_in` meets its contract. The invariant goes by what is left: the runs not yet searched, for the number
 -- that is left, give what all columns give.
-use mathlib.Core.Path.{◌≡◌, ◌∙◌, sym, ap}
+use mathlib.Core.Path.{◌≡◌}
 use Prim.Native.Nat.{◌-◌, ◌≤◌}
-use native.Mathlib.Omega.{arith}
 use lib.ListN.{drop}
-use borrow.Author.Rules.{rules}
 use Rattle.parts.specs.Columns.{runs, columns_of, columns}
 use Rattle.parts.specs.FrameAddress.{address_in}
-use Rattle.parts.specs.Inner.ColumnRuns.{runs_found, runs_past, runs_end, runs_fit}
 use Rattle.parts.proofs.frame.address_in.Given as goal
 
 abbrev pub invariant-loop-i : goal.invariant-loop-i

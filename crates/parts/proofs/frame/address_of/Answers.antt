@@ -1,7 +1,6 @@
 -- `parts::frame::address_of` meets its contract: the fields fit, and the sum is the definition's.
 -- By linear arithmetic.
 use native.Mathlib.Omega.{arith}
-use borrow.Author.Rules.{rules}
 use Rattle.parts.specs.FrameAddress.{address}
 use Rattle.parts.proofs.frame.address_of.Goals as goal
 

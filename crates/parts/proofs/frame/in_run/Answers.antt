@@ -1,6 +1,5 @@
 -- `parts::frame::in_run` meets its contract: each test of the code is a test of the definition.
 -- By computation, with the tests that led to each answer.
-use borrow.Author.Rules.{rules}
 use borrow.Author.Tests.{eq-eqb, ne_eqb, lt-ltb, le-ltb, le-leb, lt-leb}
 use Rattle.parts.specs.Inner.ColumnRuns.{in_run}
 use Rattle.parts.proofs.frame.in_run.Goals as goal

@@ -2,8 +2,6 @@
 -- By linear arithmetic; the frames passed stay at or under the number, so that no sum wraps.
 use mathlib.Core.Path.{◌≡◌}
 use Prim.Native.Nat.{◌-◌, ◌*◌, ◌≤◌}
-use native.Mathlib.Omega.{arith}
-use borrow.Author.Rules.{rules}
 use Rattle.parts.proofs.frame.leap.Given as goal
 
 abbrev pub invariant-loop-i : goal.invariant-loop-i

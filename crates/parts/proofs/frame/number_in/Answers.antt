@@ -1,14 +1,13 @@
 -- `parts::frame::number_in` meets its contract. The invariant goes by what is left: the runs not yet passed, with the number of
 -- their first frame, give what all columns give, and the frames passed and left are F, so that no sum wraps.
-use Rattle.std.specs.Prelude.{ℕ, Bool, true}
+use Rattle.std.specs.Prelude.{ℕ, true}
 use mathlib.Core.Path.{◌≡◌, ◌∙◌, refl, sym, ap}
 use Prim.Native.Nat.{◌+◌, ◌-◌, ◌*◌, ◌≤◌, ◌<◌}
 use native.Mathlib.Omega.{arith}
 use lib.ListN.{get_or, drop}
-use borrow.Author.Rules.{rules}
 use Rattle.parts.specs.Table.{frame_count}
 use Rattle.parts.specs.Laws.PrintedFigures.{count_limit}
-use Rattle.parts.specs.Columns.{run, runs, columns_of, columns, total}
+use Rattle.parts.specs.Columns.{run, runs, columns_of, total}
 use Rattle.parts.specs.FrameAddress.{number_in}
 use Rattle.parts.specs.declared.table.Part.{Part}
 use Rattle.parts.specs.declared.frame.Run.{Run}
@@ -18,7 +17,7 @@ use Rattle.parts.specs.Laws.FrameNumbers.{frames_total}
 use Rattle.parts.proofs.frame.number_in.Goals as goal
 
 module _ (p : Part) (limits : Limits p) (i first : ℕ) (r : Run) (here : i < 6) (is : r ≡ get_or (runs p) i (run 0 0 0 0))
-  (left : first + total (columns_of (drop i (runs p))) ≡ frame_count p) where
+    (left : first + total (columns_of (drop i (runs p))) ≡ frame_count p) where
   -- the next run has the frame: its number is under F
   found : (block major minor : ℕ) → in_run r block major minor ≡ true
       → (r.major ≤ major) × (first + (major - r.major) * r.minors + minor < 1945)

@@ -1,16 +1,11 @@
 -- `parts::frame::number_in` meets its contract. The invariant goes by what is left: the runs not yet passed, with the number of
 -- their first frame, give what all columns give, and the frames passed and left are F, so that no sum wraps.
-use mathlib.Core.Path.{◌≡◌, ◌∙◌, refl, sym, ap}
-use Prim.Native.Nat.{◌+◌, ◌-◌, ◌*◌, ◌≤◌, ◌<◌}
-use native.Mathlib.Omega.{arith}
+use mathlib.Core.Path.{◌≡◌}
+use Prim.Native.Nat.{◌+◌, ◌-◌, ◌≤◌}
 use lib.ListN.{drop}
-use borrow.Author.Rules.{rules}
 use Rattle.parts.specs.Table.{frame_count}
-use Rattle.parts.specs.Laws.PrintedFigures.{count_limit}
 use Rattle.parts.specs.Columns.{runs, columns_of, columns, total}
 use Rattle.parts.specs.FrameAddress.{number_in}
-use Rattle.parts.specs.Inner.ColumnRuns.{in_run_frame, in_run_below, runs_number, runs_no_number, runs_total, runs_end, runs_fit}
-use Rattle.parts.specs.Laws.FrameNumbers.{frames_total}
 use Rattle.parts.proofs.frame.number_in.Given as goal
 
 abbrev pub invariant-loop-i : goal.invariant-loop-i

@@ -2,7 +2,6 @@
 -- By computation, once the place is known.
 use mathlib.Core.Path.{◌≡◌}
 use native.Mathlib.Omega.{arith}
-use borrow.Author.Rules.{rules}
 use Rattle.parts.specs.Columns.{runs}
 use Rattle.parts.proofs.frame.run_at.Goals as goal
 

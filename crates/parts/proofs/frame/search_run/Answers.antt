@@ -1,11 +1,7 @@
 -- `parts::frame::search_run` meets its contract. The invariant goes by what is left: the columns not yet passed, searched for
 -- the number that is left, give what the whole run gives, whatever columns follow. It holds after the leap, by `run_past`.
-use mathlib.Core.Path.{◌≡◌, ◌∙◌, sym, ap}
-use mathlib.Core.List.{List, ◌++◌}
-use Prim.Native.Nat.{◌+◌, ◌-◌, ◌≤◌}
+use mathlib.Core.Path.{◌∙◌, sym, ap}
 use native.Mathlib.Omega.{arith}
-use borrow.Author.Rules.{rules}
-use Rattle.parts.specs.Columns.{Column, columns_from}
 use Rattle.parts.specs.FrameAddress.{address_in}
 use Rattle.answers.specs.declared.Answer.TheVariants as Answer
 use Rattle.parts.specs.Inner.ColumnRuns.{resumed, run_here, run_later, run_end, run_past}

@@ -4,7 +4,6 @@ use mathlib.Core.Path.{◌∙◌, sym}
 use Rattle.parts.specs.Table.{frame_count}
 use Rattle.parts.specs.Laws.KnownParts.{figure_known, figure_unknown}
 use Rattle.parts.specs.Laws.PrintedFigures.{known_limits}
-use borrow.Author.Rules.{rules}
 use Rattle.parts.proofs.table.count_at.Goals as goal
 
 pub count_of-requires : goal.count_of-requires

@@ -2,7 +2,6 @@
 -- By the law of a figure in each of the two cases.
 use Rattle.parts.specs.Table.{idcode_of}
 use Rattle.parts.specs.Laws.KnownParts.{figure_known, figure_unknown}
-use borrow.Author.Rules.{rules}
 use Rattle.parts.proofs.table.idcode_at.Goals as goal
 
 pub returns-in-Known : goal.returns-in-Known

@@ -1,6 +1,5 @@
 -- `parts::table::length_of` meets its contract: within the table's limits the sum fits, and is the definition's.
 -- By linear arithmetic.
-use borrow.Author.Rules.{rules}
 use native.Mathlib.Omega.{arith}
 use Rattle.parts.specs.Table.{frame_length}
 use Rattle.parts.proofs.table.length_of.Goals as goal

@@ -2,7 +2,6 @@
 -- By the law of a figure in each of the two cases; the product fits, since the table's limits bound it.
 use mathlib.Core.Path.{◌∙◌, sym}
 use native.Mathlib.Omega.{arith}
-use borrow.Author.Rules.{rules}
 use Rattle.parts.specs.Table.{memory_length}
 use Rattle.parts.specs.Laws.KnownParts.{figure_known, figure_unknown}
 use Rattle.parts.specs.Laws.PrintedFigures.{known_limits, length_limit, memory_limit}

@@ -2,7 +2,6 @@
 -- By computation: both are the same eight records, looked up at the same place.
 use Prim.Native.Nat.{◌≤◌, ◌<◌}
 use native.Mathlib.Omega.{arith}
-use borrow.Author.Rules.{rules}
 use borrow.Author.Tests.{lt-ltb, le-ltb}
 use Rattle.parts.specs.Table.{part_of, parts}
 use Rattle.parts.proofs.table.part_of.Goals as goal

@@ -1,6 +1,5 @@
 -- `record::checks::current_fits` meets its contract: the current frame is one of the part, or there is none.
 -- By the contract of the call, in each case of the current frame.
-use borrow.Author.Rules.{rules}
 use Rattle.record.specs.Consistency.{current_fits}
 use Rattle.record.proofs.checks.current_fits.Goals as goal
 

@@ -1,9 +1,6 @@
 -- `record::checks::data_fits` meets its contract: each test of the code is a test of the definition.
 -- By computation, with the tests that led to each answer.
-use mathlib.Core.Path.{◌≡◌}
 use borrow.Author.Rules.{rules}
-use borrow.Author.Tests.{lt-ltb, le-ltb, le-leb, lt-leb}
-use Rattle.parts.specs.Table.{length_at}
 use Rattle.record.specs.Consistency.{data_fits}
 use Rattle.record.proofs.checks.data_fits.Goals as goal
 

@@ -1,6 +1,5 @@
 -- `record::checks::phase_fits` meets its contract: each test of the code is a test of the definition.
 -- By computation, once the phase is known, with the tests that led to each answer.
-use borrow.Author.Rules.{rules}
 use borrow.Author.Tests.{le-leb, lt-leb}
 use Rattle.record.specs.Consistency.{phase_fits}
 use Rattle.record.proofs.checks.phase_fits.Goals as goal

@@ -1,7 +1,6 @@
 -- `record_image::decode::control_of` meets its contract: the control state from its words.
 -- By what the readers ensure.
 use Rattle.record_image.specs.Decode.{control_of}
-use borrow.Author.Rules.{rules}
 use Rattle.record_image.proofs.decode.control_of.Goals as goal
 
 pub returns : goal.returns

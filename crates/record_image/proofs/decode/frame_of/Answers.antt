@@ -1,10 +1,8 @@
 -- `record_image::decode::frame_of` meets its contract. The invariant goes by what is left: storing the words not yet read gives the words of the
 -- frame. The measure is what is left of the 213 words.
-use mathlib.Core.Path.{◌≡◌, ◌∙◌, sym, refl}
-use Prim.Native.Nat.{ℕ, ◌+◌, ◌*◌, ◌-◌, ◌≤◌}
-use lib.ListN.{length, drop, replicate, length-set}
-use lib.Seq.{sets}
-use Rattle.words.specs.WordsInBytes.{words_at}
+use mathlib.Core.Path.{◌∙◌, sym, refl}
+use Prim.Native.Nat.{ℕ, ◌+◌, ◌*◌}
+use lib.ListN.{drop, replicate, length-set}
 use Rattle.words.specs.Laws.WordBytes.{words_length}
 use Rattle.words.specs.Laws.WordStores.{sets_all}
 use Rattle.record_image.specs.Inner.ImageStores.{sets_read, read_done}

@@ -2,7 +2,6 @@
 -- By the test of the number, and what `register_at` ensures, in each arm.
 use mathlib.Core.Path.{◌∙◌, sym, ap}
 use borrow.Author.Tests.{eq-eqb, ne_eqb}
-use borrow.Author.Rules.{rules}
 use Rattle.record_image.specs.Decode.{open_of, open_after}
 use Rattle.record_image.proofs.decode.open_of.Goals as goal
 

@@ -2,7 +2,6 @@
 -- By what `register_at` ensures, in each arm.
 use mathlib.Core.Path.{◌∙◌, sym, ap}
 use Rattle.record_image.specs.Decode.{register_of, register_found}
-use borrow.Author.Rules.{rules}
 use Rattle.record_image.proofs.decode.register_of.Goals as goal
 
 pub returns-in-Writable : goal.returns-in-Writable

@@ -6,7 +6,6 @@ use borrow.Author.Tests.{eq-eqb, ne_eqb}
 use Rattle.record_image.specs.Image.{encoded}
 use Rattle.record_image.specs.Inner.ImageStores.{image_put}
 use borrow.Author.Rules.{rules}
-use native.Mathlib.Omega.{arith}
 use Rattle.record_image.proofs.encode.encode.Goals as goal
 
 pub returns-then-image-ne-RECORD_LENGTH : goal.returns-then-image-ne-RECORD_LENGTH

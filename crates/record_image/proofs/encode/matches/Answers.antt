@@ -1,12 +1,8 @@
 -- `record_image::encode::matches` meets its contract: the head's words and then the frame's are compared.
 -- By what `head` and `has_words` ensure, and the frame's length, which its type has.
-use mathlib.Core.Path.{◌≡◌}
-use lib.ListN.{length}
-use borrow.Author.Tests.{eq-eqb, ne_eqb, not-true, not-false}
+use borrow.Author.Tests.{eq-eqb, ne_eqb}
 use Rattle.record_image.specs.Compare.{is_image}
 use Rattle.record_image.specs.Inner.ImageStores.{image_has}
-use borrow.Author.Rules.{rules}
-use native.Mathlib.Omega.{arith}
 use Rattle.record_image.proofs.encode.matches.Goals as goal
 
 pub returns-then-image-ne-RECORD_LENGTH : goal.returns-then-image-ne-RECORD_LENGTH

@@ -1,7 +1,6 @@
 -- `record_image::head::flag_bits` meets its contract: the sum of the flags at their places.
 -- By what `bit` ensures of each.
 use Rattle.record_image.specs.Image.{flag_bits}
-use borrow.Author.Rules.{rules}
 use native.Mathlib.Omega.{arith}
 use Rattle.record_image.proofs.head.flag_bits.Goals as goal
 

@@ -1,7 +1,6 @@
 -- `record_image::head::open_number` meets its contract: one more than the address that `address_of` gives.
 -- The sum fits, since an address is at most 14.
 use Rattle.registers.specs.Laws.AddressLookup.{address_bound}
-use borrow.Author.Rules.{rules}
 use native.Mathlib.Omega.{arith}
 use Rattle.record_image.proofs.head.open_number.Goals as goal
 
