@@ -1,8 +1,8 @@
 # make            proves and builds the library, builds the command, and puts both under build/
-# make check      runs the gate, which takes 26 to 53 minutes
+# make check      runs the gate, which took 26 to 53 minutes when measured with the older kit
 # make install    PREFIX=/usr/local DESTDIR=; needs no root where PREFIX is yours, and builds nothing that is fresh
 # make uninstall  with the same PREFIX and DESTDIR
-# make clean      removes build/ and rust/target; the proved library in target/ stays, since proofs take minutes
+# make clean      removes build/ and rust/target; the proved library in crates/*/out stays, since proofs take minutes
 #
 # A shared library in a new folder is found after ldconfig, which is the administrator's to run.
 
@@ -21,7 +21,7 @@ MANDIR = $(PREFIX)/share/man
 MAN1DIR = $(MANDIR)/man1
 
 # Where rt and cargo leave what they build.
-PROVED := target/staticlib/libseamwillow.a
+PROVED := crates/seamwillow/out/libseamwillow.a
 COMPILED := rust/target/release/seamwillow
 
 # What is packed. Another file named here is taken as it is: neither rt nor cargo is run for it.
@@ -34,8 +34,8 @@ SONAME := libseamwillow.so.0
 VERSION := $(shell sed -n 's/^version = "\(.*\)"/\1/p' rust/Cargo.toml)
 PRODUCTS = $(addprefix $(BUILD)/,seamwillow libseamwillow.a $(SONAME) libseamwillow.so seamwillow.pc)
 
-# Folders are among them, so that a file that was removed or renamed shows too.
-PROVED_FROM := crates.txt $(shell find crates)
+# Folders are among them, so that a file that was removed or renamed shows too; not a crate's own, where rt makes out/.
+PROVED_FROM := crates.txt $(shell find crates/*/src crates/*/specs crates/*/proofs)
 COMPILED_FROM := rust/Cargo.toml rust/Cargo.lock $(shell find rust/library rust/command/Cargo.toml rust/command/src)
 
 .DELETE_ON_ERROR:
@@ -45,7 +45,7 @@ all: $(PRODUCTS)
 
 # Touched, since a tool that finds nothing to do leaves its file as old as it was.
 $(PROVED): $(PROVED_FROM)
-	$(RT) staticlib seamwillow
+	cd crates/seamwillow && $(RT) lib
 	@touch $@
 
 # The command is always linked with the library that rt wrote.
@@ -67,8 +67,9 @@ $(BUILD)/$(SONAME): $(BUILD)/libseamwillow.a
 	$(CC) -shared $(LDFLAGS) -Wl,-soname,$(SONAME) -Wl,-z,noexecstack -Wl,-z,defs \
 	    -Wl,--whole-archive $< -Wl,--no-whole-archive -o $@
 
+# A copy here and a link where it is installed: rt ci refuses a link anywhere in the checkout.
 $(BUILD)/libseamwillow.so: $(BUILD)/$(SONAME)
-	ln -sf $(SONAME) $@
+	$(INSTALL_PROGRAM) $< $@
 
 # ${prefix} stays in the paths, so that pkg-config can be told of another one.
 export define PC_TEXT

@@ -54,9 +54,9 @@ fn files_under(folder: &Path, kind: &str) -> Vec<PathBuf> {
 
 /// Whether a file only lists modules, as every `Lib.antt` does.
 fn lists_modules(text: &str) -> bool {
-    let lists = |line: &str| line.is_empty() || line.starts_with("pub mod ");
-    text.lines()
-        .all(|line| lists(line) || line.starts_with("--"))
+    let beginnings = ["pub mod ", "mod ", "--"];
+    let lists = |line: &str| beginnings.iter().any(|begin| line.starts_with(begin));
+    text.lines().all(|line| line.is_empty() || lists(line))
 }
 
 /// Lines with comments and blank lines, lists of modules left out.
@@ -81,7 +81,8 @@ fn crates() -> Vec<String> {
     let list = read(&path("crates.txt"));
     let lines = list.lines().filter(|line| !line.starts_with('#'));
     let names = lines.filter_map(|line| line.split_once(':'));
-    names.map(|(name, _)| name.trim().to_string()).collect()
+    let names = names.filter_map(|(name, _)| name.split_whitespace().next());
+    names.map(str::to_string).collect()
 }
 
 /// A crate's row of the inventory, in the order of `COLUMNS`.

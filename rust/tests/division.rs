@@ -7,8 +7,8 @@ use seamwillow_tests::harness::mir::{self, Division};
 use seamwillow_tests::harness::tools::has;
 use std::sync::LazyLock;
 
-/// The lookups alone: `rt` prints a crate's MIR once all that it imports is proved, so that a division
-/// in `parts` is named before the proofs of `parts` are mended.
+/// The lookups alone: a crate's MIR is there once it is proved, so that a division in `parts` is named
+/// before the proofs of the crates above are mended.
 static LOOKUPS: LazyLock<Functions<Division>> = LazyLock::new(|| mir::of_crate("parts"));
 
 /// The library with all that it imports.
@@ -26,7 +26,7 @@ fn line((function, division): &(&str, &Division)) -> String {
 
 /// A shift or a mask in machine code.
 fn is_by_power_of_two(division: &Division) -> bool {
-    division.by.is_some_and(u128::is_power_of_two)
+    division.by.is_some_and(u64::is_power_of_two)
 }
 
 #[test]

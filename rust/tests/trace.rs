@@ -110,9 +110,9 @@ fn wrong_names_are_refused() {
 > `no-such-quotation`
 `parts: no-such-prose`
 - definition: `parts: no-such-name`, `parts: Device.no-such-name`, `no_crate: parts`
-- contract: `parts: no_such_name`, `parts: frameLength`, `parts: const NO_SUCH`,
+- contract: `parts: no_such_name`, `parts: frame_length`, `parts: const NO_SUCH`,
   `parts: no_such_name`
-- theorem: `must-fail: no_such_edit`, `parts: frameLength`, `parts: Nothing.antt`
+- theorem: `must-fail: no_such_edit`, `parts: frame_length`, `parts: Nothing.antt`
 - test: `trace.rs: no_such_test`, `no_program`, `no_test.rs`, `rust/no_file`
 ";
     assert_eq!(unresolved(page).len(), 15, "{:#?}", unresolved(page));

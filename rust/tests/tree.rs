@@ -1,7 +1,7 @@
 //! The shape of the tree: where `crates/*/specs` has definitions and where theorems, and what the
 //! groups of `rust/src` name.
 
-use seamwillow_tests::harness::repository::{declarations, files, read, Kind};
+use seamwillow_tests::harness::repository::{declarations, files, place, read, Kind};
 use std::collections::BTreeSet;
 
 fn specs() -> impl Iterator<Item = String> {
@@ -15,17 +15,23 @@ fn holds_definitions(file: &str) -> bool {
 }
 
 /// The file of specs that a line imports from, and the names as the line's file has them; no names
-/// where it imports the file whole.
+/// where it imports the file whole. The kit's crates have no file here.
 fn import(line: &str) -> Option<(String, Vec<&str>)> {
-    let (_, line) = line.split_once("use Rattle·")?;
+    let (_, line) = line.split_once("use Rattle.")?;
     let (name, line) = line.split_once(".specs.")?;
     let (path, names) = line.split_once(".{").unwrap_or((line, ""));
     let path = path.split([' ', ';']).next()?;
-    let name = name.split('·').next()?;
     let names = names.split('}').next()?.split(',');
     let names = names.filter_map(|name| name.split_whitespace().last());
     let file = format!("crates/{name}/specs/{}.antt", path.replace('.', "/"));
-    (!path.starts_with("declared.")).then(|| (file, names.collect()))
+    let is_file = place(&format!("crates/{name}")).is_dir() && !path.starts_with("declared.");
+    is_file.then(|| (file, names.collect()))
+}
+
+/// The names in a line of a contract; of a field's path that which the field is of.
+fn names(line: &str) -> impl Iterator<Item = &str> {
+    let words = line.split(|c: char| c.is_whitespace() || "(){},⌜⌝".contains(c));
+    words.filter_map(|word| word.split('.').next())
 }
 
 /// The files of specs that the contracts of a file's public functions have names from.
@@ -34,8 +40,8 @@ fn cited(code: &str) -> Vec<String> {
     for line in code.lines().map(str::trim_start) {
         if line.contains("fn ") && line.contains('(') {
             public = line.starts_with("pub ");
-        } else if public && (line.starts_with("ensures ") || line.starts_with("requires ")) {
-            words.extend(line.split(|c: char| c.is_whitespace() || "(){},⌜⌝".contains(c)));
+        } else if public && (line.starts_with("ensures") || line.starts_with("requires")) {
+            words.extend(names(line));
         }
     }
     let imports = code.lines().filter_map(import);
@@ -74,16 +80,21 @@ fn reached() -> Vec<(String, String)> {
 #[test]
 fn what_a_public_contract_cites() {
     let code = "\
-ghost use Rattle·parts.specs.Table.{lengthAt};
-ghost use Rattle·parts·specs.specs.Laws.Frames.{inner, total as sum};
-ghost use Rattle·parts.specs.Laws.Whole as whole;
-ghost use Rattle·parts.specs.declared.table.Part.{Part};
+ghost use Rattle.std.specs.Prelude.{◌≡◌};
+ghost use Rattle.parts.specs.Table.{length_at};
+ghost use Rattle.parts.specs.FrameMemory.{code};
+ghost use Rattle.parts.specs.Laws.Frames.{inner, total as sum};
+ghost use Rattle.parts.specs.Laws.Owned.{owned};
+ghost use Rattle.parts.specs.Laws.Whole as whole;
+ghost use Rattle.parts.specs.declared.table.Part.{Part};
 pub(crate) fn f()
-    ensures { λ r. ⌜ r ≡ lengthAt 0 ⌝ }
+    ensures { result ≡ length_at 0 }
 pub fn g()
-    ensures { λ r. ⌜ r ≡ (sum Part) ⌝ }
+    requires* { owned.new ∗ ⌜ r.code ≡ 0 ⌝ }
+    ensures value { result ≡ (sum Part).code }
 ";
-    let files = ["Frames", "Whole"].map(|name| format!("crates/parts/specs/Laws/{name}.antt"));
+    let files =
+        ["Frames", "Owned", "Whole"].map(|name| format!("crates/parts/specs/Laws/{name}.antt"));
     assert_eq!(cited(code), files);
 }
 

@@ -6,6 +6,7 @@ pub mod compiler_sides;
 pub mod counts;
 pub mod demand3;
 pub mod ffi;
+pub mod json;
 pub mod layout_sides;
 pub mod machine_code;
 pub mod mir;

@@ -29,11 +29,11 @@ pub const BUILD: Program = Program {
 impl Program {
     fn file(&self) -> PathBuf {
         let Self { name, variable } = self;
-        let built = || Path::new(FOLDER).join("../target/bin").join(name);
+        let built = || Path::new(FOLDER).join(format!("../crates/{name}/out/{name}"));
         let file = env::var_os(variable).map_or_else(built, PathBuf::from);
         assert!(
             file.is_file(),
-            "{} is missing: run `rt check {name}` first, or let {variable} name the program",
+            "{} is missing: run `rt run` in crates/{name} first, or let {variable} name the program",
             file.display()
         );
         file

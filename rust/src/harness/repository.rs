@@ -12,7 +12,8 @@ pub fn read(path: &str) -> String {
     fs::read_to_string(place(path)).unwrap_or_else(|error| panic!("{path}: {error}"))
 }
 
-/// The files with an ending anywhere under a folder, as sorted paths from the root.
+/// The files with an ending anywhere under a folder, as sorted paths from the root. What `rt` leaves in
+/// a folder `out` is no part of the tree.
 pub fn files(folder: &str, ending: &str) -> Vec<String> {
     let entries = fs::read_dir(place(folder)).unwrap_or_else(|error| panic!("{folder}: {error}"));
     let mut found = Vec::new();
@@ -20,7 +21,9 @@ pub fn files(folder: &str, ending: &str) -> Vec<String> {
         let entry = entry.unwrap_or_else(|error| panic!("{folder}: {error}"));
         let path = format!("{folder}/{}", entry.file_name().to_string_lossy());
         if entry.path().is_dir() {
-            found.extend(files(&path, ending));
+            if entry.file_name() != "out" {
+                found.extend(files(&path, ending));
+            }
         } else if path.ends_with(ending) {
             found.push(path);
         }

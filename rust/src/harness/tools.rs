@@ -15,7 +15,7 @@ pub fn c_compiler() -> Command {
 
 /// The static library as `rt` writes it.
 pub fn archive() -> PathBuf {
-    root().join("target/staticlib/libseamwillow.a")
+    root().join("crates/seamwillow/out/libseamwillow.a")
 }
 
 /// Whether a tool can be run; where it cannot, the test's output says by name what was skipped.

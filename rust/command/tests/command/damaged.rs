@@ -2,12 +2,12 @@
 //! independent loader makes of the bytes, or a word on what the file looks like.
 
 use crate::common::expected::{memories, Expected};
-use crate::common::json::Value;
 use crate::common::streams::{
     behind_bit_header, bits_reversed, frame_write, gzip, hex_text, layout, multi_frame_write,
     multiple, partial, turned,
 };
 use crate::common::{Scratch, Told};
+use seamwillow_tests::harness::json::Value;
 use seamwillow_tests::independent::layout::Desk;
 use seamwillow_tests::independent::reference::PARTS;
 

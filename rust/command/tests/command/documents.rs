@@ -15,11 +15,10 @@ use std::process::{Command, Stdio};
 const PYTHON: &str = "python3";
 
 /// What the commands read and do not change.
-const READ: [&str; 4] = ["crates", "include", "rust", "target"];
+const READ: [&str; 3] = ["crates", "include", "rust"];
 
-/// Where the programs are that a document's commands may name, and what puts them there.
-const PROGRAMS: &str = "target/bin/";
-const BUILD: &str = "rt check build load50 vectors layout_vectors";
+/// Where `rt` leaves what it built, in a crate's folder.
+const BUILT: &str = "/out/";
 
 /// A code block, and the file that the line before it names.
 struct Block {
@@ -104,14 +103,14 @@ fn printed(scratch: &Scratch, command: &str) -> String {
     String::from_utf8_lossy(&output.stdout).into_owned()
 }
 
-/// Asserts that the programs that a command names are there.
+/// Asserts that the programs and the library that a command names are there.
 fn assert_built(command: &str) {
-    let is_program = |word: &&str| word.starts_with(PROGRAMS);
-    let mut programs = command.split_whitespace().filter(is_program);
-    let missing = programs.find(|program| !root().join(program).is_file());
+    let is_built = |word: &&str| word.starts_with("crates/") && word.contains(BUILT);
+    let mut files = command.split_whitespace().filter(is_built);
+    let missing = files.find(|file| !root().join(file).is_file());
     assert_eq!(
         missing, None,
-        "there is no such program: `{BUILD}` makes it"
+        "there is no such file: in its crate's folder `rt run` makes a program, `rt lib` the library"
     );
 }
 

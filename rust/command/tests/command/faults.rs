@@ -4,9 +4,9 @@
 mod targets;
 mod words;
 
-use crate::common::json::Value;
 use crate::common::streams::{frame_write, full, layout, multi_frame_write, partial, stopped};
 use crate::common::{Scratch, Told};
+use seamwillow_tests::harness::json::Value;
 use std::fs::{self, File, Permissions};
 use std::io;
 use std::os::unix::fs::PermissionsExt;

@@ -2,12 +2,12 @@
 //! independent loader makes of the stream.
 
 use crate::common::expected::{memories, stored_in_memories, Expected, QUESTIONS};
-use crate::common::json::Value;
 use crate::common::{Scratch, Told};
 use seamwillow_tests::generate::random::{self, Random};
 use seamwillow_tests::generate::{guided, layouts};
 use seamwillow_tests::harness::compiler_sides::INDEPENDENT;
 use seamwillow_tests::harness::counts::Counts;
+use seamwillow_tests::harness::json::Value;
 use seamwillow_tests::independent::layout::Desk;
 use seamwillow_tests::independent::loader::{Phase, Record};
 use seamwillow_tests::independent::names::{command, register};

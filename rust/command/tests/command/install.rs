@@ -96,6 +96,10 @@ fn install_brings_every_file_to_its_place_and_uninstall_takes_it_away() {
     );
     let second = with("install");
     assert!(!second.contains("-shared"), "built again:\n{second}");
+    let links = run(Command::new("find")
+        .args(["build", "-type", "l"])
+        .current_dir(scratch.path("")));
+    assert_eq!(links, "", "`rt ci` refuses links in the checkout");
     with("uninstall");
     assert_eq!(files_below(&stage), [""; 0]);
 }
@@ -210,7 +214,7 @@ fn what_is_newer_is_proved_and_compiled_again() {
         run(make.args(["--dry-run", "--what-if", newer, "all", &build]))
     };
     let (prove, compile) = (
-        "rt staticlib seamwillow\n",
+        "cd crates/seamwillow && rt lib\n",
         "cargo build --release --offline --locked",
     );
     for newer in ["crates.txt", "crates/parts/src/lib.rt"] {

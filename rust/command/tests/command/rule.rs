@@ -9,12 +9,12 @@ mod forbidden;
 mod planted;
 mod tokens;
 
-use crate::common::json::Value;
 use crate::common::streams::{partial, stopped};
 use crate::common::{Scratch, Told};
 use forbidden::{Found, A_LETTER, BYTES};
 use seamwillow_library::{self as library, Record};
 use seamwillow_tests::generate::random::{self, Random};
+use seamwillow_tests::harness::json::Value;
 use seamwillow_tests::independent::names::register;
 use seamwillow_tests::independent::reference::{Part, PARTS};
 use std::fs;

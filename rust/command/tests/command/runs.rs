@@ -5,9 +5,9 @@
 mod cases;
 mod inputs;
 
-use crate::common::json::Value;
 use crate::common::{Scratch, Told};
 use cases::Case;
+use seamwillow_tests::harness::json::Value;
 use std::collections::BTreeSet;
 use std::env;
 use std::fs::{self, File};

@@ -1,6 +1,6 @@
 //! What the independent loader says of a stream, and how `check --json` must then answer.
 
-use super::json::Value;
+use seamwillow_tests::harness::json::Value;
 use seamwillow_tests::independent::layout::Desk;
 use seamwillow_tests::independent::loader::{Phase, Record};
 use seamwillow_tests::independent::names::{command, register};

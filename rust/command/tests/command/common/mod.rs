@@ -1,7 +1,6 @@
 //! What the tests of the command share: scratch folders and runs of the built binary.
 
 pub mod expected;
-pub mod json;
 pub mod refusals;
 pub mod streams;
 

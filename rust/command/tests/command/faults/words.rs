@@ -1,9 +1,9 @@
 //! Words that are no text or hold control characters, as names, options and lines of a desk file.
 
 use super::{scratch, BUILD};
-use crate::common::json::Value;
 use crate::common::streams::partial;
 use crate::common::{Scratch, Told};
+use seamwillow_tests::harness::json::Value;
 use std::ffi::OsStr;
 use std::os::unix::ffi::OsStrExt;
 
