@@ -15,10 +15,10 @@ use std::{env, fs};
 /// The forms that hold others. One that is not among them could call or divide, and is refused.
 const FORMS: &str =
     "AddrOf Aggregate Array Assign Call Copy Deref Exit Field If Int Lit Named Opd \
-    Ref Repeat Switch Variant dicts lifetimes local steps types value width";
+    Repeat Switch Variant dicts lifetimes local steps types value width";
 
 /// The words that hold nothing. Any other is refused, as a form is.
-const WORDS: &str = "Block Bool Erased False Imm Loop Mut Return Seq Skip True Unit";
+const WORDS: &str = "Block False Loop Return Seq Skip True Unit";
 
 /// The operations that divide nothing. Of others only `Div` and `Rem` are known.
 const OPERATIONS: &str = "Add And Cast Eq Le Lt Mul Ne Not Offset Or Sub Xor";
