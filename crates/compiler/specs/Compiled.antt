@@ -4,7 +4,6 @@
 use Rattle.std.specs.Prelude.{ℕ, List, [], ◌++◌, cond, ltb, length, drop}
 use Rattle.answers.specs.declared.Refusal.TheVariants as Refusal
 use Rattle.answers.specs.declared.Answer.{Answer}
-use Rattle.answers.specs.declared.Answer.TheVariants as Answer
 use Rattle.layout.specs.Step.{Step, Reading}
 use Rattle.layout.specs.Layout.{desk_layout, check}
 use Rattle.layout.specs.declared.FrameRange.{FrameRange}

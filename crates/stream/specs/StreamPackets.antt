@@ -5,7 +5,6 @@ use Rattle.crc16.specs.CrcRegister.{feed, fed_words, check_word}
 use Rattle.registers.specs.RegisterAddresses.{address_of}
 use Rattle.registers.specs.CommandCodes.{RCRC}
 use Rattle.registers.specs.declared.Register.{Register}
-use Rattle.registers.specs.declared.Register.TheVariants as Register
 
 -- a write header of type 1: type in bits 31..29, operation 2 in 28..27, register in 26..13, count in 10..0; "ignored bits are zero"
 abbrev pub header1 : Register → ℕ → ℕ

@@ -4,7 +4,7 @@ use Rattle.std.specs.Prelude.{◌≡◌, refl, List, [], ◌∷◌, ◌++◌, �
 use Rattle.std.proofs.Common.{◌∙◌, ap, arith, length-append}
 use Rattle.std.proofs.lemmas.List.{length-replicate}
 use Rattle.std.proofs.Math.Seq.{length-sets}
-use Rattle.std.specs.Borrow.{Bor}
+use Rattle.std.specs.Borrow.{MutBor}
 use denote.Triple.Both.{Both}
 use Rattle.words.specs.WordsInBytes.{bytes_of, words_from}
 use Rattle.stream.specs.StreamPackets.{Packet, packets_words}
@@ -36,7 +36,7 @@ pub record Written (out : List ℕ) (cursor : Cursor) (ps : List Packet) (after 
   pub bytes : after ≡ emitted out cursor.at cursor.crc ps
 
 -- the same of an output that is lent
-abbrev pub Writes : Both (Bor (List ℕ)) (Bor (List ℕ)) → Cursor → List Packet → Cursor → Type 0
+abbrev pub Writes : Both (MutBor (List ℕ)) (MutBor (List ℕ)) → Cursor → List Packet → Cursor → Type 0
 Writes output cursor ps end = Written output.entry.now cursor ps output.exit.now end
 
 module _ {out : List ℕ} {cursor : Cursor} {ps : List Packet} {after : List ℕ} {end : Cursor} (w : Written out cursor ps after end) where
@@ -76,7 +76,7 @@ once e = record { place = omega (arith, e.0); crc = e.1.0; bytes = e.1.1 }
 -- frames, as the function that writes them says it
 pub frames_size : (n zeros : ℕ) (xs : List ℕ) → size (Packet.FrameData (words_from n xs ++ replicate zeros 0)) ≡ 3 + n + zeros
 unfolding size
-frames_size n zeros xs = simp (length-append, length-replicate) (omega (arith, words_length n xs))
+frames_size n _ xs = simp (length-append, length-replicate) (omega (arith, words_length n xs))
 
 pub frames_once : {out : List ℕ} {cursor : Cursor} {after : List ℕ} {end : Cursor} (n zeros : ℕ) (xs : List ℕ)
     → (end.at ≡ cursor.at + 4 * (3 + n + zeros))

@@ -15,7 +15,6 @@ use Rattle.layout.specs.Laws.AcceptedLayout.{is_read}
 use Rattle.layout.specs.Inner.FirstStep.{step_of, steps_none, steps_first}
 use Rattle.layout.specs.declared.FrameRange.{FrameRange}
 use Rattle.layout.specs.declared.step.StepAt.{StepAt}
-use Rattle.layout.specs.declared.step.StepAt.TheVariants as StepAt
 use Rattle.stream.specs.StreamPackets.{Packet}
 use Rattle.words.specs.WordsInBytes.{words_from}
 use Rattle.stream.specs.Stream.{to_frame, further, spread_packets, step_packets, steps_packets}

@@ -7,7 +7,6 @@ use Rattle.parts.specs.Laws.Cases.{either}
 use Rattle.parts.specs.Table.{length_at, count_at}
 use Rattle.answers.specs.declared.Refusal.TheVariants as Refusal
 use Rattle.answers.specs.declared.Answer.{Answer}
-use Rattle.answers.specs.declared.Answer.TheVariants as Answer
 use Rattle.layout.specs.Ownership.{owns}
 use Rattle.layout.specs.Layout.{desk_layout, check}
 use Rattle.layout.specs.Laws.AcceptedSteps.{accepted_fits}
