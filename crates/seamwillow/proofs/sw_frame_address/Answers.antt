@@ -1,0 +1,11 @@
+-- `seamwillow::sw_frame_address` meets its contract: number and value of the answer; an address is a word.
+-- From what the three calls ensure, and the law that every address has 27 bits.
+use mathlib.Core.Path.{◌∙◌, ap}
+use native.Mathlib.Omega.{arith}
+use borrow.Author.Rules.{rules}
+use Rattle.answers.specs.AnswerNumbers.{answer_number, answer_value}
+use Rattle.parts.specs.Laws.FrameNumbers.{told_small}
+use Rattle.seamwillow.proofs.sw_frame_address.Goals as goal
+
+pub overflow_cast-address : goal.overflow_cast-address
+overflow_cast-address c = omega (arith, told_small _ _ _ c.frame_address-answer.ensures, c.answer_value.ensures)
