@@ -1,1 +1,2 @@
 pub mod ColumnRuns  -- the lookups a run of columns at a time, as the code goes
+pub mod PartLimits  -- the limits that every part keeps within

@@ -1,7 +1,7 @@
 // Frame numbers and frame addresses, each from the other. Number to address goes by subtraction over the columns: no
 // division and no remainder, so that a board without a divide instruction can do it.
 ghost use Rattle.std.specs.Prelude.{◌≡◌, List, ◌++◌, ◌+◌, ◌*◌, ◌<◌, ◌≤◌, get_or};
-ghost use Rattle.parts.specs.Laws.PrintedFigures.{Limits};
+ghost use Rattle.parts.specs.Inner.PartLimits.{Limits};
 ghost use Rattle.parts.specs.Columns.{Column, run, runs, columns, run_columns};
 ghost use Rattle.parts.specs.FrameAddress.{address, address_fields, address_in, number_in, frame_address, frame_number, address_at, number_refusal};
 ghost use Rattle.parts.specs.Inner.ColumnRuns.{FieldsFit, resumed, in_run};

@@ -1,7 +1,7 @@
 // The table of the eight parts, and what follows from it by device number.
 ghost use Rattle.std.specs.Prelude.{◌≡◌};
 ghost use Rattle.parts.specs.Table.{part_of, part_refusal, frame_length, frame_count, idcode_at, length_at, count_at, memory_at};
-ghost use Rattle.parts.specs.Laws.PrintedFigures.{Limits};
+ghost use Rattle.parts.specs.Inner.PartLimits.{Limits};
 
 use answers::{Refusal, refusal_number};
 

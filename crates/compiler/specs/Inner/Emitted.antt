@@ -3,7 +3,7 @@
 use Rattle.std.specs.Prelude.{◌≡◌, List, [], ◌∷◌, ◌++◌, ℕ, ◌+◌, ◌*◌}
 use Rattle.std.proofs.Common.{append-nil}
 use Rattle.words.specs.WordsInBytes.{put_words}
-use Rattle.words.specs.Laws.WordStores.{put_append}
+use Rattle.words.proofs.Laws.WordStores.{put_append}
 use Rattle.stream.specs.StreamPackets.{Packet, packet_words, packets_words}
 use Rattle.stream.specs.Laws.PacketsJoined.{crc_after, words_append}
 use Rattle.stream.specs.Laws.StreamLength.{sizes, packets_size}

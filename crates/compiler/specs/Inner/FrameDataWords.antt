@@ -4,7 +4,7 @@ use Rattle.std.specs.Prelude.{◌≡◌, refl, List, [], ◌∷◌, ℕ, ◌+◌
 use Rattle.std.proofs.Common.{◌∙◌}
 use Rattle.std.proofs.Math.Seq.{length-sets}
 use Rattle.words.specs.WordsInBytes.{bytes_of, put_words}
-use Rattle.words.specs.Laws.WordStores.{put_append}
+use Rattle.words.proofs.Laws.WordStores.{put_append}
 use Rattle.crc16.specs.CrcRegister.{feed, fed_words}
 use Rattle.compiler.specs.declared.packet.Cursor.{Cursor}
 

@@ -9,7 +9,7 @@ use denote.Triple.Both.{Both}
 use Rattle.words.specs.WordsInBytes.{bytes_of, words_from}
 use Rattle.stream.specs.StreamPackets.{Packet, packets_words}
 use Rattle.stream.specs.Laws.StreamLength.{size, sizes, sizes_append}
-use Rattle.words.specs.Laws.WordBytes.{words_length}
+use Rattle.words.proofs.Laws.WordBytes.{words_length}
 use Rattle.stream.specs.Laws.PacketsJoined.{crc_after, crc_append}
 use Rattle.compiler.specs.Inner.Emitted.{emitted, emit_append}
 use Rattle.compiler.specs.declared.packet.Cursor.{Cursor}

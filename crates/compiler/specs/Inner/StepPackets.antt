@@ -4,7 +4,7 @@ use Rattle.std.specs.Prelude.{◌≡◌, refl, Bool, true, ℕ, ◌+◌, ◌-◌
 use Rattle.std.proofs.Common.{◌∙◌, sym, ap, mul-le-mul, arith}
 use mathlib.Core.List.{List, [], ◌∷◌, ◌++◌, append-nil, append_assoc}
 use Rattle.parts.specs.Table.{length_at, count_at}
-use Rattle.parts.specs.Laws.Figures.{length_fits, count_fits}
+use Rattle.parts.proofs.Laws.Figures.{length_fits, count_fits}
 use Rattle.answers.specs.declared.Refusal.{Refusal}
 use Rattle.layout.specs.Step.{Step, listed}
 use Rattle.layout.specs.StepReading.{step_at, steps_at, step_offset, desk_steps}

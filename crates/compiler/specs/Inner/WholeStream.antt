@@ -6,8 +6,8 @@ use Rattle.std.proofs.Math.Path.{ap}
 use Rattle.std.proofs.Math.ListN.{drop}
 use Rattle.std.proofs.Math.Seq.{length-sets, sets-eq}
 use Rattle.words.specs.WordsInBytes.{bytes_of, put_words}
-use Rattle.words.specs.Laws.WordBytes.{bytes_length}
-use Rattle.words.specs.Laws.WordStores.{put_append}
+use Rattle.words.proofs.Laws.WordBytes.{bytes_length}
+use Rattle.words.proofs.Laws.WordStores.{put_append}
 use Rattle.layout.specs.Step.{Step, Reading, listed}
 use Rattle.layout.specs.Laws.AcceptedLayout.{is_read}
 use Rattle.stream.specs.StreamPackets.{packets_words}

@@ -7,7 +7,7 @@ use native.Mathlib.Numerals.{add-one}
 use native.Mathlib.Omega.{arith}
 use lib.Pow.{shr-shr, shl-shr, pow_mono}
 use Rattle.crc16.specs.CrcRegister.{leaving, check_word}
-use Rattle.crc16.specs.Laws.CheckWord.{leaving_lt, shl_suc}
+use Rattle.crc16.proofs.Laws.CheckWord.{leaving_lt, shl_suc}
 use Rattle.crc16.proofs.check_word.Invariants.{taken}
 use Rattle.crc16.proofs.check_word.Goals as goal
 

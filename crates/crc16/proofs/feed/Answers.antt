@@ -3,7 +3,7 @@
 use mathlib.Core.Path.{◌∙◌}
 use Rattle.crc16.specs.CrcRegister.{input, shift, shift_in, feed}
 use Rattle.crc16.specs.NibbleTable.{share, entry, entries}
-use Rattle.crc16.specs.Laws.NibbleLookup.{feed_with_entries}
+use Rattle.crc16.proofs.Laws.NibbleLookup.{feed_with_entries}
 use Rattle.crc16.proofs.feed.Goals as goal
 
 pub returns : goal.returns

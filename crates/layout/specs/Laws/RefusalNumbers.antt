@@ -3,7 +3,7 @@
 use Rattle.std.specs.Prelude.{◌≡◌, List, ℕ}
 use Rattle.std.proofs.Common.{arith}
 use Rattle.answers.specs.AnswerNumbers.{answer_number}
-use Rattle.answers.specs.Laws.SeparateNumbers.{no_refusal_31, no_answer_31}
+use Rattle.answers.proofs.Laws.SeparateNumbers.{no_refusal_31, no_answer_31}
 use Rattle.layout.specs.Layout.{check}
 use Rattle.layout.specs.StepReading.{step_refusal}
 use Rattle.layout.specs.declared.FrameRange.{FrameRange}

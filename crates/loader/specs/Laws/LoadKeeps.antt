@@ -25,7 +25,7 @@ use Rattle.answers.specs.declared.LoadAnswer.TheVariants as LoadAnswer
 use Rattle.loader.specs.Laws.Pieces.{run_invariant, run_append, taken_le, taken_all, load_accepted, load_inconsistent, load_wrong_memory, load_cases, loadable_again, later, load_append}
 use Rattle.loader.specs.Laws.WordRun.{partial_empty, word_transition}
 use Rattle.loader.specs.Laws.WordRun.{word_stops as run_stops}
-use Rattle.parts.specs.Laws.Figures.{length_fits}
+use Rattle.parts.proofs.Laws.Figures.{length_fits}
 use Rattle.loader.specs.Laws.UntouchedFrames.{run_device, run_keeps}
 use Rattle.record.specs.declared.Record.{Record}
 

@@ -13,7 +13,7 @@ use Rattle.loader.specs.EventEffects.{buffered}
 use Rattle.loader.specs.Run.{byte_transition, run}
 use Rattle.parts.specs.Table.{memory_at}
 use Rattle.loader.specs.Laws.Pieces.{run_invariant, Loadable}
-use Rattle.parts.specs.Laws.Figures.{frame_fits}
+use Rattle.parts.proofs.Laws.Figures.{frame_fits}
 use Rattle.record.specs.declared.Record.{Record}
 
 -- the frame that an event stores, of l words, lies in the memory

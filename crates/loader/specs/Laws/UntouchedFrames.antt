@@ -17,7 +17,7 @@ use Rattle.loader.specs.Load.{load}
 use Rattle.loader.specs.Laws.Pieces.{next, next_memory, run_induction, run_invariant, load_cases}
 use Rattle.parts.specs.FrameMemory.{frame_of}
 use Rattle.parts.specs.Laws.FramePlacing.{placed_length, placed_other}
-use Rattle.words.specs.Laws.WordBytes.{first_bytes}
+use Rattle.words.proofs.Laws.WordBytes.{first_bytes}
 use Rattle.record.specs.declared.Record.{Record}
 
 -- the frame that an event stores

@@ -7,7 +7,7 @@ use Prim.Native.Nat.{ℕ, zero, suc, ◌+◌, ◌-◌, ◌*◌, ◌≤◌, ◌<�
 use Rattle.std.proofs.Math.Nat.{sub-zero}
 use Rattle.std.proofs.Math.Decide.{dec_lt}
 use native.Mathlib.Omega.{arith}
-use Rattle.parts.specs.Laws.PrintedFigures.{Limits}
+use Rattle.parts.specs.Inner.PartLimits.{Limits}
 use Rattle.parts.specs.Columns.{Column, run, runs, columns_from, run_columns, columns_of, total}
 use Rattle.parts.specs.FrameAddress.{address, address_in, number_in}
 use Rattle.parts.specs.Laws.ColumnLookup.{address_here, address_later, number_here, number_later, names_frame, frame_names, fails}

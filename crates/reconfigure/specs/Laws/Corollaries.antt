@@ -3,7 +3,7 @@
 use Rattle.std.specs.Prelude.{◌≡◌, refl, List, ◌++◌, false, ℕ, ◌+◌, ◌≤◌, length}
 use Rattle.std.proofs.Common.{◌∙◌, ap, arith}
 use Rattle.parts.specs.Table.{length_at}
-use Rattle.parts.specs.Laws.Figures.{length_fits}
+use Rattle.parts.proofs.Laws.Figures.{length_fits}
 use Rattle.parts.specs.FrameMemory.{frame_of}
 use Rattle.words.specs.Laws.ByteLists.{AreBytes}
 use Rattle.answers.specs.declared.LoadAnswer.TheVariants as LoadAnswer

@@ -5,7 +5,7 @@ use Rattle.std.proofs.Common.{◌∙◌}
 use Rattle.std.proofs.Math.Path.{sym, ap}
 use Rattle.std.proofs.Math.ListN.{length}
 use Rattle.parts.specs.Table.{length_at, count_at, memory_at}
-use Rattle.parts.specs.Laws.Figures.{memory_size}
+use Rattle.parts.proofs.Laws.Figures.{memory_size}
 use Rattle.parts.specs.FrameMemory.{frame_of}
 use Rattle.words.specs.Laws.ByteLists.{AreBytes}
 use Rattle.answers.specs.declared.LoadAnswer.TheVariants as LoadAnswer

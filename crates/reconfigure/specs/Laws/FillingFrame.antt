@@ -8,7 +8,7 @@ use Rattle.std.proofs.Math.ListN.{set}
 use Rattle.std.proofs.Math.Seq.{take-set-lt}
 use Rattle.std.proofs.lemmas.Bool.{lt-leb}
 use Rattle.crc16.specs.CrcRegister.{feed, fed_words, check_word}
-use Rattle.crc16.specs.Laws.CheckWord.{check_word_passes, check_word_small}
+use Rattle.crc16.proofs.Laws.CheckWord.{check_word_passes, check_word_small}
 use Rattle.parts.specs.Table.{length_at}
 use Rattle.words.specs.WordsInBytes.{bytes_of}
 use Rattle.parts.specs.FrameMemory.{placed}

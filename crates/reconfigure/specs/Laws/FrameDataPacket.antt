@@ -10,11 +10,11 @@ use Rattle.std.proofs.Math.ListN.{length}
 use Rattle.crc16.specs.CrcRegister.{fed_words}
 use Rattle.crc16.specs.Laws.FedWords.{fed_append}
 use Rattle.parts.specs.Table.{length_at, count_at}
-use Rattle.parts.specs.Laws.Figures.{length_fits, count_fits}
+use Rattle.parts.proofs.Laws.Figures.{length_fits, count_fits}
 use Rattle.parts.specs.FrameMemory.{placed}
 use Rattle.words.specs.WordsInBytes.{words_from}
 use Rattle.words.specs.Laws.ByteLists.{AreWords, AreBytes}
-use Rattle.words.specs.Laws.WordBytes.{words_small, bytes_words, words_length}
+use Rattle.words.proofs.Laws.WordBytes.{words_small, bytes_words, words_length}
 use Rattle.parts.specs.Laws.FramePlacing.{frame_end, placed_length}
 use Rattle.registers.specs.RegisterAddresses.{address_of}
 use Rattle.registers.specs.Laws.AddressLookup.{register_address}

@@ -4,7 +4,7 @@ use Rattle.std.specs.Prelude.{◌≡◌, refl, List, Bool, ℕ, ◌^◌, ◌≤�
 use Rattle.std.proofs.Common.{◌∙◌, sym, arith, le-ltb}
 use Rattle.std.proofs.Math.Path.{ap, subst}
 use Rattle.crc16.specs.CrcRegister.{feed, check_word}
-use Rattle.crc16.specs.Laws.CheckWord.{check_word_passes, check_word_small}
+use Rattle.crc16.proofs.Laws.CheckWord.{check_word_passes, check_word_small}
 use Rattle.registers.specs.RegisterAddresses.{address_of}
 use Rattle.registers.specs.CommandCodes.{WCFG, MFWR, last_command}
 use Rattle.registers.specs.declared.Register.TheVariants as Register

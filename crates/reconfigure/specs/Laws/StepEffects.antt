@@ -6,15 +6,15 @@ use mathlib.Core.List.{List, [], ◌∷◌, ◌++◌}
 use Rattle.std.proofs.Math.Bool.{true}
 use Rattle.std.proofs.Math.ListN.{replicate, length-replicate}
 use Rattle.parts.specs.Table.{length_at, count_at}
-use Rattle.parts.specs.Laws.Figures.{figures}
+use Rattle.parts.proofs.Laws.Figures.{figures}
 use Rattle.parts.specs.FrameMemory.{placed}
 use Rattle.words.specs.WordsInBytes.{words_from}
 use Rattle.words.specs.Laws.ByteLists.{AreBytes, zero_words}
-use Rattle.words.specs.Laws.WordBytes.{words_small, bytes_words, words_length}
+use Rattle.words.proofs.Laws.WordBytes.{words_small, bytes_words, words_length}
 use Rattle.parts.specs.Laws.FramePlacing.{frame_end, placed_length}
 use Rattle.answers.specs.AnswerNumbers.{answer_value}
 use Rattle.parts.specs.FrameAddress.{address_at}
-use Rattle.parts.specs.Laws.FrameNumbers.{number_address_number, address_fits, has_address}
+use Rattle.parts.proofs.Laws.FrameNumbers.{number_address_number, address_fits, has_address}
 use Rattle.config.specs.CurrentFrame.{current_from, named}
 use Rattle.config.specs.declared.Current.{Current}
 use Rattle.config.specs.declared.Current.TheVariants as Current

@@ -8,7 +8,7 @@ use Rattle.crc16.specs.CrcRegister.{feed, fed_words}
 use Rattle.parts.specs.Table.{length_at}
 use Rattle.words.specs.WordsInBytes.{bytes_of}
 use Rattle.words.specs.Laws.ByteLists.{AreWords}
-use Rattle.words.specs.Laws.WordStores.{sets_all}
+use Rattle.words.proofs.Laws.WordStores.{sets_all}
 use Rattle.parts.specs.FrameMemory.{placed}
 use Rattle.config.specs.DataWords.{stepped}
 use Rattle.config.specs.declared.Current.{Current}

@@ -6,7 +6,7 @@ use Rattle.std.proofs.Common.{◌∙◌, sym, ap, arith, length-set}
 use Rattle.std.proofs.Math.Decide.{dec_le}
 use borrow.Author.Tests.{le-leb, lt-leb, eqb-true, eqb-false}
 use Rattle.parts.specs.Table.{length_at}
-use Rattle.parts.specs.Laws.Figures.{length_fits}
+use Rattle.parts.proofs.Laws.Figures.{length_fits}
 use Rattle.words.specs.WordsInBytes.{bytes_of}
 use Rattle.words.specs.Laws.ByteLists.{AreBytes}
 use Rattle.parts.specs.FrameMemory.{frame_of, placed}
@@ -25,7 +25,7 @@ use Rattle.loader.specs.EventEffects.{store_within, stored}
 use Rattle.loader.specs.Run.{byte_transition, run}
 use Rattle.loader.specs.Load.{load}
 use Rattle.loader.specs.Laws.Pieces.{next, next_memory, byte_run, stopped_run, run_append, load_accepted}
-use Rattle.words.specs.Laws.WordBytes.{first_bytes}
+use Rattle.words.proofs.Laws.WordBytes.{first_bytes}
 use Rattle.loader.specs.Laws.UntouchedFrames.{buffered_length, run_device, run_buffer, run_keeps}
 use Rattle.reconfigure.specs.Laws.Demand3.{AwaitsSync, stream_effect}
 

@@ -4,9 +4,9 @@ use Rattle.std.specs.Prelude.{◌≡◌, List, [], ◌++◌, Bool, ℕ, ◌+◌,
 use Rattle.std.proofs.Common.{◌∙◌, sym, ap, append-nil, add-zero, arith, length-take-le, eq-eqb}
 use Rattle.std.proofs.Math.Path.{refl}
 use Rattle.parts.specs.Table.{idcode_at, length_at, count_at}
-use Rattle.parts.specs.Laws.Figures.{figures, length_fits, idcode_fits}
+use Rattle.parts.proofs.Laws.Figures.{figures, length_fits, idcode_fits}
 use Rattle.words.specs.WordsInBytes.{bytes_of}
-use Rattle.words.specs.Laws.WordBytes.{bytes_length}
+use Rattle.words.proofs.Laws.WordBytes.{bytes_length}
 use Rattle.registers.specs.RegisterAddresses.{address_of}
 use Rattle.registers.specs.CommandCodes.{RCRC, DESYNC}
 use Rattle.registers.specs.declared.Register.TheVariants as Register

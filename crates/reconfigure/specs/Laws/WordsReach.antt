@@ -3,7 +3,7 @@
 use Rattle.std.specs.Prelude.{◌≡◌, List, [], ◌∷◌, ◌++◌, true, ℕ, ◌+◌, ◌*◌, ◌/◌, ◌%◌, ◌^◌, ◌<◌, length}
 use Rattle.std.proofs.Common.{◌∙◌, sym, ap, append_assoc, arith, length-append}
 use Rattle.words.specs.WordsInBytes.{bytes_of}
-use Rattle.words.specs.Laws.WordBytes.{bytes_append, word_bytes}
+use Rattle.words.proofs.Laws.WordBytes.{bytes_append, word_bytes}
 use Rattle.config.specs.PhaseTests.{takes_words}
 use Rattle.config.specs.DataWords.{word}
 use Rattle.config.specs.declared.PartialWord.TheVariants as PartialWord

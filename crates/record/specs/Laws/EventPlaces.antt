@@ -7,7 +7,7 @@ use Rattle.std.proofs.Common.{arith, ltb-true}
 use Rattle.crc16.specs.CrcRegister.{feed}
 use Rattle.parts.specs.Laws.Cases.{either}
 use Rattle.parts.specs.Table.{idcode_at, length_at, count_at}
-use Rattle.parts.specs.Laws.Figures.{figures}
+use Rattle.parts.proofs.Laws.Figures.{figures}
 use Rattle.registers.specs.RegisterAddresses.{address_of}
 use Rattle.registers.specs.CommandCodes.{last_command}
 use Rattle.config.specs.ControlState.{with_partial}

@@ -4,7 +4,7 @@ use Rattle.std.specs.Prelude.{◌≡◌, refl, ◌≢◌, List, true, ℕ, ◌�
 use Rattle.std.proofs.Common.{◌∙◌, sym, arith, lt-ltb, le-leb, eq-eqb, ne_eqb}
 use Rattle.std.proofs.Math.Path.{ap}
 use Rattle.parts.specs.Table.{part_of, frame_count, count_at, memory_at}
-use Rattle.parts.specs.Laws.Figures.{figures}
+use Rattle.parts.proofs.Laws.Figures.{figures}
 use Rattle.parts.specs.declared.table.Part.{Part}
 use Rattle.parts.specs.declared.table.PartAnswer.{PartAnswer}
 use Rattle.answers.specs.declared.Refusal.{Refusal}

@@ -11,9 +11,9 @@ use Rattle.crc16.specs.CrcRegister.{feed}
 use Rattle.crc16.specs.Laws.CrcBounds.{feed_lt}
 use Rattle.parts.specs.Laws.Cases.{either}
 use Rattle.parts.specs.Table.{idcode_at, length_at, count_at}
-use Rattle.parts.specs.Laws.Figures.{figures}
+use Rattle.parts.proofs.Laws.Figures.{figures}
 use Rattle.parts.specs.FrameAddress.{frame_number}
-use Rattle.parts.specs.Laws.FrameNumbers.{number_below}
+use Rattle.parts.proofs.Laws.FrameNumbers.{number_below}
 use Rattle.parts.specs.declared.frame.NumberAnswer.{NumberAnswer}
 use Rattle.config.specs.CurrentFrame.{current_from, named}
 use Rattle.registers.specs.RegisterAddresses.{address_of, is_fdri, is_mfwr, is_lout, register_at}

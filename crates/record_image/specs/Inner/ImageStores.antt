@@ -4,10 +4,10 @@ use Rattle.std.specs.Prelude.{◌≡◌, refl, List, ◌&&◌, ℕ, suc, ◌+◌
 use Rattle.std.proofs.Common.{◌∙◌, arith, add-one, length-append}
 use Rattle.std.proofs.lemmas.List.Edits.{sets}
 use Rattle.words.specs.WordsInBytes.{words_from, words_at, put_words, starts, has_words}
-use Rattle.words.specs.Laws.WordBytes.{bytes_length}
+use Rattle.words.proofs.Laws.WordBytes.{bytes_length}
 use Rattle.words.specs.Laws.WordReads.{words_next}
-use Rattle.words.specs.Laws.WordStores.{sets_all, put_append}
-use Rattle.words.specs.Laws.WordTests.{has_append}
+use Rattle.words.proofs.Laws.WordStores.{sets_all, put_append}
+use Rattle.words.proofs.Laws.WordTests.{has_append}
 use Rattle.config.specs.declared.Phase.{Phase}
 use Rattle.config.specs.declared.Control.{Control}
 use Rattle.record.specs.declared.Record.{Record}

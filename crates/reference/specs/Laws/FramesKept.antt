@@ -4,7 +4,7 @@ use Rattle.std.specs.Prelude.{◌≡◌, refl, ◌≢◌, ℕ, List, false, eqb,
 use Rattle.std.proofs.Common.{◌∙◌, eqb-true}
 use Rattle.parts.specs.Laws.Cases.{either}
 use Rattle.parts.specs.Table.{length_at, count_at, memory_at}
-use Rattle.parts.specs.Laws.Figures.{memory_size}
+use Rattle.parts.proofs.Laws.Figures.{memory_size}
 use Rattle.parts.specs.FrameMemory.{frame_of}
 use Rattle.answers.specs.AnswerNumbers.{answer_number}
 use Rattle.answers.specs.declared.Answer.{Answer}

@@ -4,7 +4,7 @@ use mathlib.Core.Path.{◌∙◌, ap}
 use native.Mathlib.Omega.{arith}
 use borrow.Author.Rules.{rules}
 use Rattle.answers.specs.AnswerNumbers.{answer_number, answer_value}
-use Rattle.parts.specs.Laws.FrameNumbers.{told_small}
+use Rattle.parts.proofs.Laws.FrameNumbers.{told_small}
 use Rattle.seamwillow.proofs.sw_frame_address.Goals as goal
 
 pub overflow_cast-address : goal.overflow_cast-address

@@ -10,7 +10,7 @@ use Rattle.loader.specs.Laws.LoadKeeps.{load_pieces}
 use Rattle.record_image.specs.Image.{encoded}
 use Rattle.record_image.specs.Decode.{decoded}
 use Rattle.record_image.specs.Compare.{accepted_image}
-use Rattle.record_image.specs.Laws.AcceptedImages.{accepted_length, accepted_lossless, encoded_image, written_accepted, written_decoded}
+use Rattle.record_image.proofs.Laws.AcceptedImages.{accepted_length, accepted_lossless, encoded_image, written_accepted, written_decoded}
 use Rattle.seamwillow.specs.RecordCalls.{Result, result_of, loaded_image}
 use Rattle.seamwillow.specs.Laws.RefusedCalls.{loaded_refused, loaded_done}
 use Rattle.seamwillow.specs.Laws.LeftImages.{load_lossless}

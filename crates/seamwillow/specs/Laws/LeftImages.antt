@@ -5,7 +5,7 @@ use Rattle.std.proofs.Common.{◌∙◌, arith}
 use Rattle.std.proofs.lemmas.List.{length-replicate}
 use Rattle.parts.specs.Laws.Cases.{either}
 use Rattle.words.specs.Laws.ByteLists.{AreWords, AreBytes}
-use Rattle.words.specs.Laws.WordBytes.{bytes_small}
+use Rattle.words.proofs.Laws.WordBytes.{bytes_small}
 use Rattle.parts.specs.Table.{part_of, memory_at}
 use Rattle.parts.specs.declared.table.PartAnswer.{PartAnswer}
 use Rattle.parts.specs.declared.table.PartAnswer.TheVariants as PartAnswer
@@ -34,11 +34,11 @@ use Rattle.record_image.specs.Decode.{decoded}
 use Rattle.record_image.specs.Compare.{accepted_image}
 use Rattle.record_image.specs.Laws.KeptRecord.{Lossless}
 use Rattle.record_image.specs.Laws.Remembered.{KeepsWord}
-use Rattle.record_image.specs.Laws.ByteLossless.{byte_lossless, byte_keeps_word}
-use Rattle.record_image.specs.Laws.ImageRoundTrip.{decode_image, image_accepted}
+use Rattle.record_image.proofs.Laws.ByteLossless.{byte_lossless, byte_keeps_word}
+use Rattle.record_image.proofs.Laws.ImageRoundTrip.{decode_image, image_accepted}
 use Rattle.record.specs.Laws.FreshRecord.{powered_so, fresh_consistent}
 use Rattle.record_image.specs.Laws.FreshImage.{fresh_lossless}
-use Rattle.record_image.specs.Laws.AcceptedImages.{accepted_length, accepted_lossless, encoded_image, written_accepted, written_decoded}
+use Rattle.record_image.proofs.Laws.AcceptedImages.{accepted_length, accepted_lossless, encoded_image, written_accepted, written_decoded}
 use Rattle.seamwillow.specs.RecordCalls.{result_of, powered_image, loaded_image, reconfigured_image}
 use Rattle.seamwillow.specs.Laws.RefusedCalls.{loaded_done, powered_done, reconfigured_done}
 

@@ -21,7 +21,7 @@ use Rattle.reconfigure.specs.Laws.AnswerCases.{inconsistent_so}
 use Rattle.record_image.specs.Image.{record_length, encoded}
 use Rattle.record_image.specs.Decode.{decoded}
 use Rattle.record_image.specs.Compare.{is_image, accepted_image}
-use Rattle.record_image.specs.Laws.ImageRoundTrip.{accepted_image_lem}
+use Rattle.record_image.proofs.Laws.ImageRoundTrip.{accepted_image_lem}
 use Rattle.seamwillow.specs.RecordCalls.{refused_image, result_of, powered_image, loaded_image, Changed, kept_image, changed_of, reconfigured_image}
 
 -- comparing bytes with the record that they decode to tells whether they are accepted

@@ -6,7 +6,7 @@ use Rattle.std.proofs.Math.Path.{refl}
 use mathlib.Core.List.{List, [], ◌∷◌, ◌++◌}
 use Rattle.std.proofs.lemmas.List.{length-replicate}
 use Rattle.parts.specs.Table.{length_at}
-use Rattle.words.specs.Laws.WordBytes.{bytes_length, words_length}
+use Rattle.words.proofs.Laws.WordBytes.{bytes_length, words_length}
 use Rattle.layout.specs.Step.{Step, FrameWrite, MultiFrameWrite}
 use Rattle.layout.specs.Layout.{step_word_count, steps_word_count, stream_word_count}
 use Rattle.layout.specs.Laws.AcceptedSteps.{Fits, AllFit}

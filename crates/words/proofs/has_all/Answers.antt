@@ -5,7 +5,7 @@ use Prim.Native.Nat.{◌+◌, ◌*◌}
 use native.Mathlib.Omega.{arith}
 use lib.ListN.{get_or}
 use Rattle.words.specs.Laws.ByteLists.{all_bytes}
-use Rattle.words.specs.Laws.WordTests.{has_next, has_done, has_word, has_other}
+use Rattle.words.proofs.Laws.WordTests.{has_next, has_done, has_word, has_other}
 use Rattle.words.proofs.has_all.Goals as goal
 
 pub returns-then-word_at-words : goal.returns-then-word_at-words

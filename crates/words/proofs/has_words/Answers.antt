@@ -2,7 +2,7 @@
 -- By what `has_all` ensures, and the laws of words past the end.
 use mathlib.Core.Path.{sym}
 use native.Mathlib.Omega.{arith}
-use Rattle.words.specs.Laws.WordTests.{has_past, has_short}
+use Rattle.words.proofs.Laws.WordTests.{has_past, has_short}
 use Rattle.words.proofs.has_words.Goals as goal
 
 pub returns-then-bytes-at : goal.returns-then-bytes-at

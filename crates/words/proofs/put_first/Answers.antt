@@ -4,7 +4,7 @@ use mathlib.Core.Path.{◌∙◌, sym}
 use native.Mathlib.Omega.{arith}
 use lib.ListN.{take}
 use lib.Seq.{length-take-le, get_or-take}
-use Rattle.words.specs.Laws.WordStores.{put_next, put_done}
+use Rattle.words.proofs.Laws.WordStores.{put_next, put_done}
 use Rattle.words.proofs.put_first.Goals as goal
 
 pub loop-i-preserved : goal.loop-i-preserved

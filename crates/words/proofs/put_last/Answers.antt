@@ -4,7 +4,7 @@ use mathlib.Core.Path.{sym}
 use mathlib.Core.List.{[], ◌∷◌}
 use lib.Pow.{shr_mod}
 use Rattle.words.specs.WordsInBytes.{bytes_of}
-use Rattle.words.specs.Laws.WordStores.{sets_past, put_bytes}
+use Rattle.words.proofs.Laws.WordStores.{sets_past, put_bytes}
 use Rattle.words.proofs.put_last.Goals as goal
 
 pub returns-then-bytes-at : goal.returns-then-bytes-at

@@ -3,7 +3,7 @@
 use mathlib.Core.Path.{sym}
 use native.Mathlib.Omega.{arith}
 use Rattle.words.specs.WordsInBytes.{bytes_of}
-use Rattle.words.specs.Laws.WordStores.{sets_past, put_short}
+use Rattle.words.proofs.Laws.WordStores.{sets_past, put_short}
 use Rattle.words.proofs.put_words.Goals as goal
 
 pub returns-then-bytes-at : goal.returns-then-bytes-at

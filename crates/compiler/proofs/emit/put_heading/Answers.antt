@@ -3,9 +3,9 @@
 use mathlib.Core.Path.{◌≡◌, ◌∙◌}
 use mathlib.Core.List.{[], ◌∷◌}
 use native.Mathlib.Omega.{arith}
-use Rattle.parts.specs.Laws.Figures.{figures}
+use Rattle.parts.proofs.Laws.Figures.{figures}
 use Rattle.stream.specs.Laws.StreamLength.{size}
-use Rattle.words.specs.Laws.WordStores.{put_append}
+use Rattle.words.proofs.Laws.WordStores.{put_append}
 use Rattle.compiler.specs.Inner.PacketWriting.{joined, once}
 use Rattle.compiler.specs.Inner.WholeStream.{synced}
 use Rattle.compiler.proofs.emit.put_heading.Goals as goal

@@ -7,7 +7,7 @@ use native.Mathlib.Nat.{mul_comm, mul_assoc}
 use native.Mathlib.Omega.{arith}
 use lib.ListN.{length, drop, replicate}
 use Rattle.parts.specs.Table.{length_at, count_at}
-use Rattle.parts.specs.Laws.Figures.{length_fits}
+use Rattle.parts.proofs.Laws.Figures.{length_fits}
 use Rattle.layout.specs.Inner.TargetNumbers.{numbers_at}
 use Rattle.layout.specs.Inner.FirstStep.{StepBytes}
 use Rattle.layout.specs.declared.step.StepAt.{StepAt}

@@ -10,8 +10,8 @@ use Rattle.crc16.specs.Laws.FedWords.{fed_append}
 use Rattle.registers.specs.RegisterAddresses.{address_of}
 use Rattle.stream.specs.StreamPackets.{crc_of, packet_words}
 use Rattle.words.specs.WordsInBytes.{words_from}
-use Rattle.words.specs.Laws.WordStores.{put_then}
-use Rattle.words.specs.Laws.WordBytes.{words_length}
+use Rattle.words.proofs.Laws.WordStores.{put_then}
+use Rattle.words.proofs.Laws.WordBytes.{words_length}
 use Rattle.stream.specs.Laws.PacketsJoined.{crc_after}
 use Rattle.compiler.specs.Inner.Emitted.{words_one}
 use Rattle.compiler.proofs.frames.put_frames.Goals as goal

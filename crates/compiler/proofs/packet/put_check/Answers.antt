@@ -6,7 +6,7 @@ use Rattle.crc16.specs.CrcRegister.{check_word}
 use Rattle.registers.specs.RegisterAddresses.{address_of}
 use Rattle.stream.specs.StreamPackets.{crc_of, packet_words, packets_words}
 use Rattle.stream.specs.Laws.PacketsJoined.{crc_after}
-use Rattle.words.specs.Laws.WordStores.{put_append}
+use Rattle.words.proofs.Laws.WordStores.{put_append}
 use Rattle.compiler.proofs.packet.put_check.Goals as goal
 
 pub returns-clause-crc_value : goal.returns-clause-crc_value

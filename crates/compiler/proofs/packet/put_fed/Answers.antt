@@ -1,7 +1,7 @@
 -- `compiler::packet::put_fed` meets its contract.
 -- By what `put_word` and `feed_with` ensure, and the law that lookups in the table of `entries` feed as `feed` does.
 use mathlib.Core.Path.{◌∙◌}
-use Rattle.crc16.specs.Laws.NibbleLookup.{feed_with_entries}
+use Rattle.crc16.proofs.Laws.NibbleLookup.{feed_with_entries}
 use Rattle.compiler.proofs.packet.put_fed.Goals as goal
 
 pub returns-clause-crc_value : goal.returns-clause-crc_value

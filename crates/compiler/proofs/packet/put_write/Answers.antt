@@ -7,7 +7,7 @@ use native.Mathlib.Omega.{arith}
 use Rattle.stream.specs.StreamPackets.{header1, crc_of, packet_words, packets_words}
 use Rattle.registers.specs.Laws.AddressLookup.{address_bound}
 use Rattle.stream.specs.Laws.PacketsJoined.{crc_after}
-use Rattle.words.specs.Laws.WordStores.{put_append}
+use Rattle.words.proofs.Laws.WordStores.{put_append}
 use Rattle.compiler.proofs.packet.put_write.Goals as goal
 
 pub overflow_mul-address : goal.overflow_mul-address

@@ -6,7 +6,7 @@ use Prim.Native.Nat.{ℕ, ◌+◌, ◌*◌, ◌≤◌}
 use native.Mathlib.Nat.{mul-le-mul}
 use native.Mathlib.Omega.{arith}
 use Rattle.parts.specs.Table.{length_at, count_at}
-use Rattle.parts.specs.Laws.Figures.{length_fits, count_fits}
+use Rattle.parts.proofs.Laws.Figures.{length_fits, count_fits}
 use Rattle.layout.specs.Ownership.{owns}
 use Rattle.layout.specs.StepReading.{step_at}
 use Rattle.layout.specs.Laws.StepViews.{write_view, multi_view}

@@ -7,7 +7,7 @@ use native.Mathlib.Omega.{arith}
 use lib.ListN.{length}
 use borrow.Author.Tests.{eq-eqb, ne_eqb, lt-ltb, le-ltb}
 use Rattle.parts.specs.Table.{count_at}
-use Rattle.parts.specs.Laws.Figures.{length_fits, count_fits}
+use Rattle.parts.proofs.Laws.Figures.{length_fits, count_fits}
 use Rattle.layout.specs.StepReading.{judged_write}
 use Rattle.layout.proofs.step.judged_write.Goals as goal
 

@@ -6,7 +6,7 @@ use Prim.Native.Nat.{ℕ, suc, ◌+◌, ◌-◌, ◌*◌, ◌<◌}
 use native.Mathlib.Nat.{add_assoc}
 use native.Mathlib.Omega.{arith}
 use Rattle.crc16.specs.CrcRegister.{fed_words}
-use Rattle.crc16.specs.Laws.NibbleLookup.{feed_with_entries}
+use Rattle.crc16.proofs.Laws.NibbleLookup.{feed_with_entries}
 use Rattle.words.specs.WordsInBytes.{word_at, words_from, words_at}
 use Rattle.words.specs.Laws.WordReads.{words_next}
 use Rattle.loader.specs.Inner.FillWords.{last_of, kept_all}

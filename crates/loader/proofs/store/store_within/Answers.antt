@@ -6,7 +6,7 @@ use lib.ListN.{length}
 use borrow.Author.Tests.{le-leb, lt-leb}
 use Rattle.loader.specs.EventEffects.{store_within}
 use Rattle.parts.specs.Laws.FramePlacing.{placed_sets}
-use Rattle.words.specs.Laws.WordBytes.{first_bytes}
+use Rattle.words.proofs.Laws.WordBytes.{first_bytes}
 use Rattle.loader.proofs.store.store_within.Goals as goal
 
 pub returns-then-at-size : goal.returns-then-at-size

@@ -1,6 +1,6 @@
 -- `loader::turn::step_byte` meets its contract: a turn of one byte.
 -- By the turn of what the control machine makes of the byte, which `finish` applies.
-use Rattle.parts.specs.Laws.Figures.{length_fits}
+use Rattle.parts.proofs.Laws.Figures.{length_fits}
 use Rattle.loader.specs.Inner.Turn.{byte_turn, transition_turn}
 use Rattle.loader.proofs.turn.step_byte.Goals as goal
 

@@ -1,7 +1,7 @@
 -- `loader::turn::step_fill` meets its contract: a turn of words that only fill the buffer.
 -- By the turn of such words, after what `fill` makes of them; the buffer holds every frame.
 use native.Mathlib.Omega.{arith}
-use Rattle.parts.specs.Laws.Figures.{length_fits}
+use Rattle.parts.proofs.Laws.Figures.{length_fits}
 use Rattle.loader.specs.Inner.Turn.{fill_turn}
 use Rattle.loader.proofs.turn.step_fill.Goals as goal
 

@@ -1,6 +1,6 @@
 -- `loader::turn::step_word` meets its contract: a turn of one word.
 -- By the turn of what the control machine makes of the word, which `finish` applies.
-use Rattle.parts.specs.Laws.Figures.{length_fits}
+use Rattle.parts.proofs.Laws.Figures.{length_fits}
 use Rattle.loader.specs.Inner.Turn.{word_turn, transition_turn}
 use Rattle.loader.proofs.turn.step_word.Goals as goal
 

@@ -1,8 +1,8 @@
 -- `parts::frame::frame_address` meets its contract: the search over the part's columns is the definition's lookup.
 -- By the law of the lookup in each of the two cases of the part.
 use mathlib.Core.Path.{◌∙◌, sym}
-use Rattle.parts.specs.Laws.PrintedFigures.{known_limits}
-use Rattle.parts.specs.Laws.FrameNumbers.{address_known, address_unknown}
+use Rattle.parts.proofs.Laws.PrintedFigures.{known_limits}
+use Rattle.parts.proofs.Laws.FrameNumbers.{address_known, address_unknown}
 use Rattle.parts.proofs.frame.frame_address.Goals as goal
 
 pub address_in-requires : goal.address_in-requires

@@ -1,8 +1,8 @@
 -- `parts::frame::frame_number` meets its contract: the search over the part's columns is the definition's lookup.
 -- By the law of the lookup in each of the two cases of the part.
 use mathlib.Core.Path.{◌∙◌, sym}
-use Rattle.parts.specs.Laws.PrintedFigures.{known_limits}
-use Rattle.parts.specs.Laws.FrameNumbers.{number_known, number_unknown}
+use Rattle.parts.proofs.Laws.PrintedFigures.{known_limits}
+use Rattle.parts.proofs.Laws.FrameNumbers.{number_known, number_unknown}
 use Rattle.parts.proofs.frame.frame_number.Goals as goal
 
 pub number_in-requires : goal.number_in-requires

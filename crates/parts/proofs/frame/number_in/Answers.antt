@@ -6,14 +6,14 @@ use Prim.Native.Nat.{◌+◌, ◌-◌, ◌*◌, ◌≤◌, ◌<◌}
 use native.Mathlib.Omega.{arith}
 use lib.ListN.{get_or, drop}
 use Rattle.parts.specs.Table.{frame_count}
-use Rattle.parts.specs.Laws.PrintedFigures.{count_limit}
+use Rattle.parts.proofs.Laws.PrintedFigures.{count_limit}
 use Rattle.parts.specs.Columns.{run, runs, columns_of, total}
 use Rattle.parts.specs.FrameAddress.{number_in}
 use Rattle.parts.specs.declared.table.Part.{Part}
 use Rattle.parts.specs.declared.frame.Run.{Run}
-use Rattle.parts.specs.Laws.PrintedFigures.{Limits}
+use Rattle.parts.specs.Inner.PartLimits.{Limits}
 use Rattle.parts.specs.Inner.ColumnRuns.{in_run, in_run_frame, in_run_below, runs_number, runs_no_number, runs_total, runs_end, runs_fit}
-use Rattle.parts.specs.Laws.FrameNumbers.{frames_total}
+use Rattle.parts.proofs.Laws.FrameNumbers.{frames_total}
 use Rattle.parts.proofs.frame.number_in.Goals as goal
 
 module _ (p : Part) (limits : Limits p) (i first : ℕ) (r : Run) (here : i < 6) (is : r ≡ get_or (runs p) i (run 0 0 0 0))

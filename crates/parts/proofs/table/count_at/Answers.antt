@@ -3,7 +3,7 @@
 use mathlib.Core.Path.{◌∙◌, sym}
 use Rattle.parts.specs.Table.{frame_count}
 use Rattle.parts.specs.Laws.KnownParts.{figure_known, figure_unknown}
-use Rattle.parts.specs.Laws.PrintedFigures.{known_limits}
+use Rattle.parts.proofs.Laws.PrintedFigures.{known_limits}
 use Rattle.parts.proofs.table.count_at.Goals as goal
 
 pub count_of-requires : goal.count_of-requires

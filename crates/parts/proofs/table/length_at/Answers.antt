@@ -3,7 +3,7 @@
 use mathlib.Core.Path.{◌∙◌, sym}
 use Rattle.parts.specs.Table.{frame_length}
 use Rattle.parts.specs.Laws.KnownParts.{figure_known, figure_unknown}
-use Rattle.parts.specs.Laws.PrintedFigures.{known_limits}
+use Rattle.parts.proofs.Laws.PrintedFigures.{known_limits}
 use Rattle.parts.proofs.table.length_at.Goals as goal
 
 pub length_of-requires : goal.length_of-requires

@@ -4,7 +4,7 @@ use mathlib.Core.Path.{◌∙◌, sym}
 use native.Mathlib.Omega.{arith}
 use Rattle.parts.specs.Table.{memory_length}
 use Rattle.parts.specs.Laws.KnownParts.{figure_known, figure_unknown}
-use Rattle.parts.specs.Laws.PrintedFigures.{known_limits, length_limit, memory_limit}
+use Rattle.parts.proofs.Laws.PrintedFigures.{known_limits, length_limit, memory_limit}
 use Rattle.parts.proofs.table.memory_at.Goals as goal
 
 pub length_of-requires : goal.length_of-requires

@@ -3,8 +3,8 @@
 use mathlib.Core.Path.{◌∙◌, sym, refl}
 use Prim.Native.Nat.{ℕ, ◌+◌, ◌*◌}
 use lib.ListN.{drop, replicate, length-set}
-use Rattle.words.specs.Laws.WordBytes.{words_length}
-use Rattle.words.specs.Laws.WordStores.{sets_all}
+use Rattle.words.proofs.Laws.WordBytes.{words_length}
+use Rattle.words.proofs.Laws.WordStores.{sets_all}
 use Rattle.record_image.specs.Inner.ImageStores.{sets_read, read_done}
 use native.Mathlib.Omega.{arith}
 use Rattle.record_image.proofs.decode.frame_of.Goals as goal

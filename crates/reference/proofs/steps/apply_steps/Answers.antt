@@ -4,7 +4,7 @@ use mathlib.Core.Path.{◌∙◌, sym}
 use native.Mathlib.Omega.{arith}
 use lib.ListN.{length}
 use Rattle.parts.specs.Table.{length_at, count_at}
-use Rattle.parts.specs.Laws.Figures.{length_fits, memory_size}
+use Rattle.parts.proofs.Laws.Figures.{length_fits, memory_size}
 use Rattle.layout.specs.Ownership.{owns}
 use Rattle.layout.specs.Inner.FirstStep.{step_bytes}
 use Rattle.reference.specs.Inner.StepList.{none_done, step_made, step_roomy}

@@ -11,8 +11,8 @@ use Rattle.config.specs.declared.Control.{Control}
 use Rattle.config.specs.declared.Phase.{Phase}
 use Rattle.words.specs.WordsInBytes.{bytes_of, words_at, starts}
 use Rattle.words.specs.Laws.ByteLists.{AreWords, words_join}
-use Rattle.words.specs.Laws.WordBytes.{bytes_length, bytes_append, words_length, words_bytes, word_of_words}
-use Rattle.words.specs.Laws.WordTests.{starts_self, starts_true}
+use Rattle.words.proofs.Laws.WordBytes.{bytes_length, bytes_append, words_length, words_bytes, word_of_words}
+use Rattle.words.proofs.Laws.WordTests.{starts_self, starts_true}
 use Rattle.record.specs.declared.Record.{Record}
 use Rattle.record_image.specs.Image.{words_filled, current_number, head_words, image_words, image, record_length}
 use Rattle.record_image.specs.Compare.{is_image, accepted_image}

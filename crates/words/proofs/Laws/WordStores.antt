@@ -5,7 +5,7 @@ use Rattle.std.proofs.Common.{◌∙◌, sym, ap, append-nil, add-one, arith, dr
 use Rattle.std.proofs.lemmas.List.Edits.{sets, sets-eq}
 use Rattle.std.proofs.Math.Seq.{length-sets, set_out}
 use Rattle.words.specs.WordsInBytes.{bytes_of, put_words}
-use Rattle.words.specs.Laws.WordBytes.{bytes_length, bytes_append}
+use Rattle.words.proofs.Laws.WordBytes.{bytes_length, bytes_append}
 
 -- ---- runs of stores
 

@@ -3,7 +3,8 @@
 use Rattle.std.specs.Prelude.{◌≡◌, refl, ℕ, ◌+◌, ◌*◌, ◌≤◌, ◌<◌, get_or}
 use Rattle.std.proofs.Common.{sym, arith, lt-ltb}
 use Rattle.parts.specs.Table.{part, parts, part_of, figure_of, figure, idcode_of, frame_length, frame_count, memory_length, idcode_at, length_at, count_at, memory_at}
-use Rattle.parts.specs.Laws.PrintedFigures.{Limits, known_limits, length_limit, count_limit, idcode_limit}
+use Rattle.parts.proofs.Laws.PrintedFigures.{known_limits, length_limit, count_limit, idcode_limit}
+use Rattle.parts.specs.Inner.PartLimits.{Limits}
 use Rattle.parts.specs.Laws.KnownParts.{figure_known}
 use Rattle.parts.specs.Laws.FramePlacing.{frame_end}
 use Rattle.parts.specs.declared.table.Part.{Part}

@@ -5,6 +5,7 @@ use Rattle.std.proofs.Math.Bool.{and-eq-true_iff}
 use Rattle.std.proofs.Common.{le_of_suc-le-suc, not-suc-le-zero, mul-le-mul, le_refl, arith, lt-ltb, le-ltb, leb-true}
 use Rattle.std.proofs.Math.Decide.{dec_lt}
 use Rattle.parts.specs.Table.{part, parts, part_of, idcode_of, frame_length, frame_count, memory_length}
+use Rattle.parts.specs.Inner.PartLimits.{Limits}
 use Rattle.parts.specs.declared.table.Part.{Part}
 use Rattle.parts.specs.declared.table.PartAnswer.{PartAnswer}
 
@@ -43,12 +44,6 @@ unfolding all
 at f [] z t k h = absurd (not-suc-le-zero h)
 at f (p ∷ ps) z t zero h = ((and-eq-true_iff (f p) (all f ps)).0 t).0
 at f (p ∷ ps) z t (suc k) h = at f ps z ((and-eq-true_iff (f p) (all f ps)).0 t).1 k (le_of_suc-le-suc h)
-
-pub record Limits (p : Part) : Type 0 where
-  pub rows : p.rows ≤ 104
-  pub columns : p.columns ≤ 80
-  pub ram_columns : p.ram_columns ≤ 4
-  pub idcode : p.idcode ≤ 0xffffffff
 
 limits : (p : Part) → within p ≡ true → Limits p
 unfolding within

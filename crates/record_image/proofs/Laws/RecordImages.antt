@@ -16,7 +16,7 @@ use Rattle.record_image.specs.Image.{image}
 use Rattle.record_image.specs.Decode.{decoded}
 use Rattle.record_image.specs.Compare.{accepted_image}
 use Rattle.record_image.specs.Laws.KeptRecord.{InRange, kept_current, kept_phase, kept_control, kept}
-use Rattle.record_image.specs.Laws.ImageRoundTrip.{decode_image, accepted_image_lem, image_accepted}
+use Rattle.record_image.proofs.Laws.ImageRoundTrip.{decode_image, accepted_image_lem, image_accepted}
 
 -- no frame fits every part
 frame_fits : (device : ℕ) (none : Bool) (n : ℕ) → current_fits device (Current.Frame n) ≡ true → current_fits device (cond none Current.NoFrame (Current.Frame n)) ≡ true

@@ -11,7 +11,7 @@ use Rattle.parts.specs.Laws.Cases.{either}
 use Rattle.words.specs.WordsInBytes.{word_of}
 use Rattle.words.specs.Laws.ByteLists.{AreWords}
 use Rattle.parts.specs.Table.{idcode_at, length_at, count_at}
-use Rattle.parts.specs.Laws.Figures.{length_fits, count_fits}
+use Rattle.parts.proofs.Laws.Figures.{length_fits, count_fits}
 use Rattle.registers.specs.RegisterAddresses.{address_of, is_fdri, is_lout, register_at}
 use Rattle.config.specs.RegisterWrites.{masked, hold, fed_crc, written}
 use Rattle.registers.specs.CommandCodes.{RCRC, last_command}

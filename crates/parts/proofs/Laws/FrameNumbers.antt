@@ -10,7 +10,7 @@ use Rattle.std.proofs.Math.Decide.{dec_lt}
 use Rattle.answers.specs.AnswerNumbers.{answer_value}
 use Rattle.answers.specs.declared.Refusal.{Refusal}
 use Rattle.parts.specs.Table.{part_of, frame_count}
-use Rattle.parts.specs.Laws.PrintedFigures.{known_limits}
+use Rattle.parts.proofs.Laws.PrintedFigures.{known_limits}
 use Rattle.parts.specs.Columns.{Column, columns_from, runs, columns_of, columns, total}
 use Rattle.parts.specs.FrameAddress.{address, block, major, minor, cleared, address_in, number_in, address_for, frame_address, address_at, number_for, frame_number}
 use Rattle.parts.specs.Inner.ColumnRuns.{run_total}

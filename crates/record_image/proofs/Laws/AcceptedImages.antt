@@ -7,14 +7,14 @@ use native.Mathlib.Omega.{arith}
 use Rattle.std.proofs.Math.ListN.{length}
 use Rattle.parts.specs.Laws.Cases.{either}
 use Rattle.words.specs.Laws.ByteLists.{AreBytes, bytes_drop}
-use Rattle.words.specs.Laws.WordBytes.{bytes_small, word_small, words_small, words_length}
+use Rattle.words.proofs.Laws.WordBytes.{bytes_small, word_small, words_small, words_length}
 use Rattle.config.specs.declared.PartialWord.{PartialWord}
 use Rattle.record.specs.declared.Record.{Record}
 use Rattle.record_image.specs.Image.{image_words, image, record_length, encoded}
 use Rattle.record_image.specs.Compare.{is_image, accepted_image}
 use Rattle.record_image.specs.Decode.{image_word, pending_of, phase_of, partial_of, current_of, registers_of, control_of, decoded}
 use Rattle.record_image.specs.Laws.KeptRecord.{PartialBytes, PhaseInRange, CurrentInRange, InRange, Lossless}
-use Rattle.record_image.specs.Laws.ImageRoundTrip.{decode_image, accepted_image_lem, image_accepted}
+use Rattle.record_image.proofs.Laws.ImageRoundTrip.{decode_image, accepted_image_lem, image_accepted}
 
 -- ---- numbers that are read from bytes
 

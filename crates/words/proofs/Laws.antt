@@ -1,0 +1,3 @@
+pub mod WordBytes  -- words to bytes and back
+pub mod WordStores  -- words stored one after the other
+pub mod WordTests  -- words compared one after the other
