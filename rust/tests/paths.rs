@@ -3,7 +3,7 @@
 use seamwillow_tests::harness::repository::{files, place, read};
 
 /// Folders and files that a path of the documents may begin with.
-const BEGINNINGS: [&str; 8] = [
+const BEGINNINGS: [&str; 9] = [
     "crates/",
     "docs/",
     "rust/",
@@ -12,6 +12,7 @@ const BEGINNINGS: [&str; 8] = [
     "man/",
     ".ci/",
     "specs/",
+    "proofs/",
 ];
 const ENDINGS: [&str; 8] = [
     ".antt", ".rt", ".rs", ".md", ".h", ".txt", ".edit", "/stdout",
@@ -33,11 +34,11 @@ fn bare_names(text: &str) -> impl Iterator<Item = &str> {
     spans.filter(|span| span.ends_with(".antt") && !span.contains(['/', ' ', ':']))
 }
 
-/// A path from the root, or one of a crate's specs, whichever crate the text is about.
+/// A path from the root, or one of a crate's specs or proofs, whichever crate the text is about.
 fn is_there(path: &str, specs: &[String]) -> bool {
+    let is_in_crate = ["specs/", "proofs/"].iter().any(|it| path.starts_with(it));
     place(path).exists()
-        || path.starts_with("specs/")
-            && specs.iter().any(|file| file.ends_with(&format!("/{path}")))
+        || is_in_crate && specs.iter().any(|file| file.ends_with(&format!("/{path}")))
 }
 
 #[test]

@@ -27,16 +27,20 @@ fn count(whose: &str, name: &str, label: &str) -> usize {
     if whose.ends_with(".rs") {
         return items(&read(&format!("rust/tests/{whose}")), &format!("fn {name}"));
     }
-    let [specs, src] = ["specs", "src"].map(|folder| format!("crates/{whose}/{folder}"));
+    let folder = |folder: &str| format!("crates/{whose}/{folder}");
+    let [specs, laws, src] = ["specs", "proofs/Laws", "src"].map(folder);
+    let stated = |stem: &str, has: &dyn Fn(&str) -> usize| {
+        within(&specs, stem, has) + within(&laws, stem, has)
+    };
     if let Some(stem) = name.strip_suffix(".antt") {
-        return within(&specs, stem, |_| 1);
+        return stated(stem, &|_| 1);
     }
     if name.contains(' ') {
         return within(&src, "", |text| items(text, name));
     }
     let (stem, name) = name.split_once('.').unwrap_or(("", name));
     let declared = |kinds: &[Kind]| {
-        within(&specs, stem, |text| {
+        stated(stem, &|text| {
             let found = declarations(text).into_iter();
             found
                 .filter(|found| found.name == name && kinds.contains(&found.kind))

@@ -9,21 +9,29 @@ fn specs() -> impl Iterator<Item = String> {
     files.filter(|file| file.contains("/specs/"))
 }
 
-/// `crates/NAME/specs/FILE`, in no folder of specs.
-fn holds_definitions(file: &str) -> bool {
-    file.matches('/').count() == 3
+/// The files of specs, and of the laws that stand among the proofs.
+fn stated() -> impl Iterator<Item = String> {
+    let files = files("crates", ".antt").into_iter();
+    let parts = ["/specs/", "/proofs/Laws", "/proofs/Lib."];
+    files.filter(move |file| parts.iter().any(|part| file.contains(part)))
 }
 
-/// The file of specs that a line imports from, and the names as the line's file has them; no names
-/// where it imports the file whole. The kit's crates have no file here.
+/// `crates/NAME/specs/FILE`, in no folder of specs.
+fn holds_definitions(file: &str) -> bool {
+    file.contains("/specs/") && file.matches('/').count() == 3
+}
+
+/// The file of specs or proofs that a line imports from, and the names as the line's file has them;
+/// no names where it imports the file whole. The kit's crates have no file here.
 fn import(line: &str) -> Option<(String, Vec<&str>)> {
     let (_, line) = line.split_once("use Rattle.")?;
-    let (name, line) = line.split_once(".specs.")?;
+    let (name, line) = line.split_once('.')?;
+    let (folder, line) = line.split_once('.')?;
     let (path, names) = line.split_once(".{").unwrap_or((line, ""));
     let path = path.split([' ', ';']).next()?;
     let names = names.split('}').next()?.split(',');
     let names = names.filter_map(|name| name.split_whitespace().last());
-    let file = format!("crates/{name}/specs/{}.antt", path.replace('.', "/"));
+    let file = format!("crates/{name}/{folder}/{}.antt", path.replace('.', "/"));
     let is_file = place(&format!("crates/{name}")).is_dir() && !path.starts_with("declared.");
     is_file.then(|| (file, names.collect()))
 }
@@ -34,7 +42,7 @@ fn names(line: &str) -> impl Iterator<Item = &str> {
     words.filter_map(|word| word.split('.').next())
 }
 
-/// The files of specs that the contracts of a file's public functions have names from.
+/// The files of specs or proofs that the contracts of a file's public functions have names from.
 fn cited(code: &str) -> Vec<String> {
     let (mut public, mut words) = (false, BTreeSet::new());
     for line in code.lines().map(str::trim_start) {
@@ -50,7 +58,8 @@ fn cited(code: &str) -> Vec<String> {
     cited.map(|(file, _)| file).collect()
 }
 
-/// What the contracts of public functions rest on: a file of specs, and a file that imports it.
+/// What the contracts of public functions rest on: a file, and a file that imports it. Of a file of
+/// proofs it is enough to know that it is reached.
 fn reached() -> Vec<(String, String)> {
     let mut next = Vec::new();
     for library in files("crates", "/src/lib.rt") {
@@ -68,9 +77,11 @@ fn reached() -> Vec<(String, String)> {
     let (mut seen, mut reached) = (BTreeSet::new(), Vec::new());
     while let Some((file, by)) = next.pop() {
         if seen.insert(file.clone()) {
-            let text = read(&file);
-            let imports = text.lines().filter_map(import);
-            next.extend(imports.map(|(found, _)| (found, file.clone())));
+            if file.contains("/specs/") {
+                let text = read(&file);
+                let imports = text.lines().filter_map(import);
+                next.extend(imports.map(|(found, _)| (found, file.clone())));
+            }
             reached.push((file, by));
         }
     }
@@ -84,7 +95,7 @@ ghost use Rattle.std.specs.Prelude.{◌≡◌};
 ghost use Rattle.parts.specs.Table.{length_at};
 ghost use Rattle.parts.specs.FrameMemory.{code};
 ghost use Rattle.parts.specs.Laws.Frames.{inner, total as sum};
-ghost use Rattle.parts.specs.Laws.Owned.{owned};
+ghost use Rattle.parts.proofs.Laws.Owned.{owned};
 ghost use Rattle.parts.specs.Laws.Whole as whole;
 ghost use Rattle.parts.specs.declared.table.Part.{Part};
 pub(crate) fn f()
@@ -93,8 +104,8 @@ pub fn g()
     requires* { owned.new ∗ ⌜ r.code ≡ 0 ⌝ }
     ensures value { result ≡ (sum Part).code }
 ";
-    let files =
-        ["Frames", "Owned", "Whole"].map(|name| format!("crates/parts/specs/Laws/{name}.antt"));
+    let files = ["specs/Laws/Frames", "proofs/Laws/Owned", "specs/Laws/Whole"];
+    let files = files.map(|name| format!("crates/parts/{name}.antt"));
     assert_eq!(cited(code), files);
 }
 
@@ -131,20 +142,22 @@ fn public_contracts_rest_on_definitions() {
 const LISTS: [&str; 4] = ["Lib", "Laws", "Inner", "Examples"];
 
 fn lists_modules(file: &str) -> bool {
-    let lists = LISTS.map(|list| format!("/specs/{list}.antt"));
-    lists.iter().any(|list| file.ends_with(list.as_str()))
+    let is_list = |folder: &str, list: &str| file.ends_with(&format!("/{folder}/{list}.antt"));
+    LISTS
+        .iter()
+        .any(|list| is_list("specs", list) || is_list("proofs", list))
 }
 
 #[test]
 fn every_file_of_specs_is_in_its_list() {
     let mut wrong = String::new();
-    for file in specs().filter(|file| !file.ends_with("/specs/Lib.antt")) {
+    for file in stated().filter(|file| !file.ends_with("/Lib.antt")) {
         let (folder, name) = file
             .rsplit_once('/')
             .expect("a file of specs is in a folder");
-        let list = match folder.strip_suffix("/specs") {
-            Some(_) => format!("{folder}/Lib.antt"),
-            None => format!("{folder}.antt"),
+        let list = match folder.ends_with("/specs") || folder.ends_with("/proofs") {
+            true => format!("{folder}/Lib.antt"),
+            false => format!("{folder}.antt"),
         };
         let line = format!("pub mod {}  -- ", name.trim_end_matches(".antt"));
         if !lists_modules(&list) || !read(&list).contains(&line) {
@@ -157,7 +170,7 @@ fn every_file_of_specs_is_in_its_list() {
 #[test]
 fn every_module_of_specs_says_what_it_holds() {
     let mut wrong = String::new();
-    for file in specs() {
+    for file in stated() {
         for line in read(&file).lines() {
             if line.starts_with("pub mod ") && !line.contains("  -- ") {
                 wrong += &format!("{file}: {line}\n");
