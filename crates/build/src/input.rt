@@ -12,6 +12,7 @@ pub enum Input {
 }
 
 // Reads up to the end of the input.
+#[tactic(auto, unfolding(crate::specs::Inner::Input::Within))]
 pub(crate) fn read_input(input: &mut impl Read, buffer: &mut [u8]) -> Input
     ensures { Within result buffer.new }
 {

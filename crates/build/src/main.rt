@@ -55,6 +55,7 @@ fn compile_layout(
 }
 
 // Reads the layout into a buffer, then compiles it.
+#[tactic(auto, unfolding(crate::specs::Inner::Input::Within))]
 fn build(
     rt: &(impl Print + Eprint),
     stdin: &mut impl Read,
