@@ -22,8 +22,8 @@ struct Session {
     failed: bool,
 }
 
-fn text(rt: &impl Print, s: &str) -> io::Result<()> {
-    rt.print(s)
+fn text(rt: &impl Print, s: &[u8]) -> io::Result<()> {
+    rt.write_all(s)
 }
 
 fn number(rt: &impl Print, n: u64) -> io::Result<()> {
@@ -31,17 +31,17 @@ fn number(rt: &impl Print, n: u64) -> io::Result<()> {
 }
 
 fn print_phase(rt: &impl Print, phase: Phase) -> io::Result<()> {
-    text(rt, "phase ")?;
+    text(rt, b"phase ")?;
     match phase {
-        Phase::Hunting(_) => text(rt, "hunting\n"),
-        Phase::Header(_) => text(rt, "header\n"),
+        Phase::Hunting(_) => text(rt, b"hunting\n"),
+        Phase::Header(_) => text(rt, b"header\n"),
         Phase::Data {
             register: _,
             left: _,
             filled: _,
-        } => text(rt, "data\n"),
-        Phase::Crc => text(rt, "crc\n"),
-        Phase::Stopped(_) => text(rt, "stopped\n"),
+        } => text(rt, b"data\n"),
+        Phase::Crc => text(rt, b"crc\n"),
+        Phase::Stopped(_) => text(rt, b"stopped\n"),
     }
 }
 
@@ -49,16 +49,16 @@ fn print_verdict(rt: &impl Print, session: Session) -> io::Result<()> {
     let answer = session.answer;
     let record = session.record;
     let phase = record.phase;
-    text(rt, "stop ")?;
+    text(rt, b"stop ")?;
     number(rt, answers::load_number(answer) as u64)?;
-    text(rt, "taken ")?;
+    text(rt, b"taken ")?;
     number(rt, session.taken)?;
     print_phase(rt, phase)?;
-    text(rt, "started ")?;
+    text(rt, b"started ")?;
     if record.control.flags.started {
-        text(rt, "yes\n")
+        text(rt, b"yes\n")
     } else {
-        text(rt, "no\n")
+        text(rt, b"no\n")
     }
 }
 

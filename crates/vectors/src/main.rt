@@ -6,8 +6,8 @@ use parts::frame::NumberAnswer;
 use parts::table::{count_at, idcode_at, length_at, memory_at, part_of, part_refusal};
 use std::io;
 
-fn text(rt: &impl Print, s: &str) -> io::Result<()> {
-    rt.print(s)
+fn text(rt: &impl Print, s: &[u8]) -> io::Result<()> {
+    rt.write_all(s)
 }
 
 fn decimal(rt: &impl Print, n: u32) -> io::Result<()> {
@@ -19,11 +19,11 @@ fn hex(rt: &impl Print, n: u32) -> io::Result<()> {
 }
 
 fn refused(rt: &impl Print, number: u32) -> io::Result<()> {
-    text(rt, "refused ")?;
+    text(rt, b"refused ")?;
     decimal(rt, number)
 }
 
-fn print_figure(rt: &impl Print, label: &str, refusal: u32, figure: u32) -> io::Result<()> {
+fn print_figure(rt: &impl Print, label: &[u8], refusal: u32, figure: u32) -> io::Result<()> {
     text(rt, label)?;
     if refusal == 0 {
         decimal(rt, figure)
@@ -43,43 +43,43 @@ fn print_idcode(rt: &impl Print, refusal: u32, idcode: u32) -> io::Result<()> {
 // A row of 01's table.
 fn print_part(rt: &impl Print, device: u32) -> io::Result<()> {
     let refusal = part_refusal(part_of(device));
-    text(rt, "device ")?;
+    text(rt, b"device ")?;
     decimal(rt, device)?;
-    text(rt, " idcode ")?;
+    text(rt, b" idcode ")?;
     print_idcode(rt, refusal, idcode_at(device))?;
-    print_figure(rt, " words ", refusal, length_at(device))?;
-    print_figure(rt, " frames ", refusal, count_at(device))?;
-    print_figure(rt, " bytes ", refusal, memory_at(device))?;
-    text(rt, "\n")
+    print_figure(rt, b" words ", refusal, length_at(device))?;
+    print_figure(rt, b" frames ", refusal, count_at(device))?;
+    print_figure(rt, b" bytes ", refusal, memory_at(device))?;
+    text(rt, b"\n")
 }
 
 fn print_number(rt: &impl Print, device: u32, address: u32) -> io::Result<()> {
     let answer = parts::frame::frame_number(device, address);
     match answer {
         NumberAnswer::Number(n) => decimal(rt, n),
-        NumberAnswer::NoFrame => text(rt, "none"),
+        NumberAnswer::NoFrame => text(rt, b"none"),
         NumberAnswer::Refused(_) => refused(rt, parts::frame::number_refusal(answer)),
     }
 }
 
 // A frame number, its address, and the number that the address gives.
 fn print_frame(rt: &impl Print, device: u32, number: u32) -> io::Result<()> {
-    text(rt, "device ")?;
+    text(rt, b"device ")?;
     decimal(rt, device)?;
-    text(rt, " frame ")?;
+    text(rt, b" frame ")?;
     decimal(rt, number)?;
-    text(rt, " address ")?;
+    text(rt, b" address ")?;
     let answer = parts::frame::frame_address(device, number);
     match answer {
         Answer::Done(_) => {
             let address = parts::frame::address_at(device, number);
             hex(rt, address)?;
-            text(rt, " frame ")?;
+            text(rt, b" frame ")?;
             print_number(rt, device, address)?;
         }
         Answer::Refused { .. } => refused(rt, answer_number(answer))?,
     }
-    text(rt, "\n")
+    text(rt, b"\n")
 }
 
 fn print_parts(rt: &impl Print) -> io::Result<()> {
@@ -113,13 +113,13 @@ fn print_frames(rt: &impl Print) -> io::Result<()> {
 // A CRC value, its check word, and the register after that word is written to CRC.
 fn print_check(rt: &impl Print, crc: u32) -> io::Result<()> {
     let word = crc16::check_word(crc);
-    text(rt, "crc ")?;
+    text(rt, b"crc ")?;
     hex(rt, crc)?;
-    text(rt, " check word ")?;
+    text(rt, b" check word ")?;
     hex(rt, word)?;
-    text(rt, " crc ")?;
+    text(rt, b" crc ")?;
     hex(rt, crc16::feed(crc, 0, word))?;
-    text(rt, "\n")
+    text(rt, b"\n")
 }
 
 // 01's CRC example, and the check words of other values.

@@ -1,5 +1,5 @@
 -- A digit that is none, or that leads past 2 ^ 32, ends the text as malformed; any other leads on.
-use Rattle.std.proofs.Common.{arith, ◌≡◌, ◌<◌, get_or}
+use Rattle.std.proofs.Common.{arith, get_or}
 use Rattle.build.specs.Inner.Decimal.{unfit_low, unfit_high, unfit_large, fit, parsed_none, parsed_starts, parsed_ends, parsed_goes, parsed_done}
 use Rattle.build.proofs.argument.parse.Goals as goal
 
