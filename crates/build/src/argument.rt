@@ -3,6 +3,7 @@ ghost use Rattle.std.specs.Prelude.{◌≡◌};
 ghost use Rattle.build.specs.Inner.Decimal.{parsed};
 
 use layout::FrameRange;
+use std::env::{Env, FillError};
 
 // A number that was given, or text that is none.
 #[derive(Clone, Copy)]
@@ -46,20 +47,25 @@ fn parse(text: &[u8]) -> Parsed
 }
 
 // The number of argument i. Ten digits hold every number; what is longer is read as empty.
-fn number(i: usize) -> Parsed {
+fn number(rt: &impl Env, i: usize) -> Parsed {
     let mut text = [0u8; 10];
-    let n = os::arg(i, &mut text);
+    let n = rt.arg(i, &mut text).unwrap_or(0);
     parse(&text[..n])
 }
 
+// Whether there is an argument i. No buffer is needed to tell.
+fn is_given(rt: &impl Env, i: usize) -> bool {
+    !matches!(rt.arg(i, &mut []), Err(FillError::NotPresent))
+}
+
 // What the arguments ask. The first is the program's own name.
-pub(crate) fn read_arguments() -> Request {
-    if os::arg_count() != 4 {
+pub(crate) fn read_arguments(rt: &impl Env) -> Request {
+    if !is_given(rt, 3) || is_given(rt, 4) {
         return Request::WrongCount;
     }
-    let first = number(1);
-    let second = number(2);
-    let third = number(3);
+    let first = number(rt, 1);
+    let second = number(rt, 2);
+    let third = number(rt, 3);
     let Parsed::Number(device) = first else {
         return Request::Malformed(1);
     };

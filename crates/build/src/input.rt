@@ -1,7 +1,7 @@
 // Standard input into a buffer.
 ghost use Rattle.build.specs.Inner.Input.{Within};
 
-use libc::STDIN_FILENO;
+use std::io::Read;
 
 // What was read. Whole: the bytes up to the end of the input. Full: the buffer is full.
 #[derive(Clone, Copy)]
@@ -12,16 +12,15 @@ pub enum Input {
 }
 
 // Reads up to the end of the input.
-pub(crate) fn read_input(buffer: &mut [u8]) -> Input
+#[tactic(auto, unfolding(crate::specs::Inner::Input::Within))]
+pub(crate) fn read_input(input: &mut impl Read, buffer: &mut [u8]) -> Input
     ensures { Within result buffer.new }
 {
     let mut n: usize = 0;
     while n < buffer.len() {
-        let got = libc::read(STDIN_FILENO, &mut buffer[n..]);
-        if got < 0 {
+        let Ok(more) = input.read(&mut buffer[n..]) else {
             return Input::Failed;
-        }
-        let more = io::count(got, &buffer[n..]);
+        };
         if more == 0 {
             return Input::Whole(n);
         }

@@ -4,7 +4,6 @@ use Rattle.std.specs.Prelude.{◌≡◌, refl, List, [], ◌∷◌, Bool, true, 
 use Rattle.std.proofs.Math.Bool.{or-true}
 use Rattle.std.proofs.Common.{add-one, arith, drop_of_length-le, drop-cons, lt-ltb, le-ltb}
 use Rattle.build.specs.declared.argument.Parsed.{Parsed}
-use Rattle.build.specs.declared.argument.Parsed.TheVariants as Parsed
 
 -- a digit more after digits of value n
 abbrev pub with_digit : ℕ → ℕ → ℕ

@@ -2,7 +2,6 @@
 -- A definition alone: what `read_input` promises of its count.
 use Rattle.std.specs.Prelude.{ℕ, ◌≤◌, List, length}
 use Rattle.build.specs.declared.input.Input.{Input}
-use Rattle.build.specs.declared.input.Input.TheVariants as Input
 
 unfoldable pub Within : Input → List ℕ → Type 0
 Within (Input.Whole n) xs = n ≤ length xs
