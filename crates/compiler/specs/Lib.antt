@@ -1,4 +1,3 @@
 pub mod Compiled  -- a layout compiled into an output, with its refusals
-pub mod Laws  -- what is proved of the definitions
 pub mod Inner  -- vocabulary of private contracts and of loops, with its laws
 pub mod Examples  -- 01's statements marked P, and examples that a theorem's premise can be met

@@ -6,7 +6,6 @@ pub mod Coding  -- an accepted layout is the code of its steps, and reading that
 pub mod ViewConverse  -- bytes as a view of a target or a step says are read as that target or step
 pub mod UnownedFrames  -- the reference machine keeps every frame that is not owned, and the memory's length
 pub mod WiderRange  -- what is accepted for some frames is accepted for more of them, with the same steps
-pub mod LaterOffset  -- a check at an offset is the check of the bytes from there on
 pub mod StepViews  -- what a target or a step that was read tells of the bytes
 pub mod LayoutViews  -- what a list of steps and a whole layout that was read tell of the bytes
 pub mod NoPart  -- what is read for a device number that names no part: no step is accepted

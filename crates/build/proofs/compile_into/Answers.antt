@@ -1,6 +1,6 @@
 -- The stream of an accepted layout lies in the output: the compiler's contract says that it has room.
 use Rattle.std.proofs.Common.{◌∙◌, sym, arith, length-take-le}
-use Rattle.compiler.specs.Laws.CompilerAnswer.{compiled_accepts}
+use Rattle.compiler.proofs.Laws.CompilerAnswer.{compiled_accepts}
 use Rattle.build.proofs.compile_into.Goals as goal
 
 pub slice_bounds-write_stream-end : goal.slice_bounds-write_stream-end

@@ -3,7 +3,7 @@
 use mathlib.Core.Path.{◌∙◌, refl, sym, ap}
 use Rattle.layout.specs.Laws.AcceptedLayout.{accepted}
 use Rattle.compiler.specs.Compiled.{Compiled, compiled_after}
-use Rattle.compiler.specs.Laws.CompilerAnswer.{accepted_read, accepted_length, accepts_compiled, short_compiled}
+use Rattle.compiler.proofs.Laws.CompilerAnswer.{accepted_read, accepted_length, accepts_compiled, short_compiled}
 use Rattle.compiler.proofs.compile.Goals as goal
 
 pub put_stream-requires : goal.put_stream-requires

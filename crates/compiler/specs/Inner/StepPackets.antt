@@ -18,7 +18,7 @@ use Rattle.layout.specs.declared.step.StepAt.{StepAt}
 use Rattle.stream.specs.StreamPackets.{Packet}
 use Rattle.words.specs.WordsInBytes.{words_from}
 use Rattle.stream.specs.Stream.{to_frame, further, spread_packets, step_packets, steps_packets}
-use Rattle.words.specs.Laws.WordReads.{words_take}
+use Rattle.words.proofs.Laws.WordReads.{words_take}
 use Rattle.stream.specs.Laws.FrameWords.{frames_from}
 
 -- the packets of a step that was read, of the steps of a list, and of a layout's, as a desk reads them

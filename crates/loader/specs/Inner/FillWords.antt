@@ -12,7 +12,7 @@ use Rattle.config.specs.RegisterWrites.{fed_crc, hold}
 use Rattle.config.specs.ControlState.{with_registers, transition}
 use Rattle.config.specs.DataWords.{fdri_word, data_word, word}
 use Rattle.words.specs.WordsInBytes.{word_at, words_from, words_at}
-use Rattle.words.specs.Laws.WordReads.{four_bytes, words_next}
+use Rattle.words.proofs.Laws.WordReads.{four_bytes, words_next}
 use Rattle.registers.specs.declared.Register.TheVariants as Register
 use Rattle.config.specs.declared.Registers.{Registers}
 use Rattle.config.specs.declared.PartialWord.TheVariants as PartialWord

@@ -6,7 +6,7 @@ use Rattle.std.specs.Borrow.{Bor, MutBor}
 use denote.Triple.Both.{Both}
 use Rattle.parts.specs.Table.{length_at}
 use Rattle.config.specs.PhaseTests.{is_stopped, takes_words}
-use Rattle.config.specs.Laws.StaysSet.{word_keeps, byte_keeps}
+use Rattle.config.proofs.Laws.StaysSet.{word_keeps, byte_keeps}
 use Rattle.config.specs.DataWords.{word}
 use Rattle.config.specs.StreamBytes.{byte}
 use Rattle.registers.specs.declared.Register.TheVariants as Register

@@ -8,9 +8,9 @@ use Rattle.config.specs.Laws.TakesWords.{takes_runs}
 use Rattle.config.specs.ControlState.{with_partial, stopped}
 use Rattle.record.specs.Consistency.{consistent}
 use Rattle.record.specs.Laws.StaysConsistent.{byte_consistent}
-use Rattle.config.specs.Laws.StaysSet.{Grown, grown_refl, grown_trans, byte_keeps}
+use Rattle.config.proofs.Laws.StaysSet.{Grown, grown_refl, grown_trans, byte_keeps}
 use Rattle.words.specs.WordsInBytes.{word_of}
-use Rattle.config.specs.Laws.StopLeaves.{left_at, left_partial, word_stops}
+use Rattle.config.proofs.Laws.StopLeaves.{left_at, left_partial, word_stops}
 use Rattle.config.specs.StreamBytes.{byte}
 use Rattle.config.specs.declared.Control.{Control}
 use Rattle.config.specs.declared.Transition.{Transition}

@@ -5,7 +5,7 @@ use Rattle.std.proofs.Common.{◌∙◌, ap, drop-set-lt}
 use Rattle.parts.specs.Table.{length_at}
 use Rattle.record.specs.Consistency.{consistent}
 use Rattle.record.specs.Laws.StaysConsistent.{byte_consistent}
-use Rattle.config.specs.Laws.StaysSet.{byte_keeps}
+use Rattle.config.proofs.Laws.StaysSet.{byte_keeps}
 use Rattle.record.specs.Laws.EventPlaces.{EventFits, byte_placed}
 use Rattle.config.specs.declared.Control.{Control}
 use Rattle.config.specs.declared.Event.{Event}

@@ -9,7 +9,7 @@ use Rattle.std.proofs.Math.ListN.{length-set}
 use Rattle.std.proofs.lemmas.Bool.{lt-leb}
 use Rattle.parts.specs.Table.{length_at}
 use Rattle.config.specs.PhaseTests.{is_stopped}
-use Rattle.config.specs.Laws.StaysSet.{byte_keeps}
+use Rattle.config.proofs.Laws.StaysSet.{byte_keeps}
 use Rattle.config.specs.declared.Event.{Event}
 use Rattle.loader.specs.EventEffects.{store_within, buffered, stored}
 use Rattle.loader.specs.Run.{byte_transition, run}

@@ -19,12 +19,12 @@ use Rattle.parts.specs.Table.{memory_at}
 use Rattle.answers.specs.declared.Answer.TheVariants as Answer
 use Rattle.record.specs.Consistency.{consistent}
 use Rattle.compiler.specs.Compiled.{Compiled, compiled}
-use Rattle.compiler.specs.Laws.CompilerAnswer.{compiled_accepts, refused_keeps}
-use Rattle.reconfigure.specs.Laws.Demand3.{AwaitsSync}
+use Rattle.compiler.proofs.Laws.CompilerAnswer.{compiled_accepts, refused_keeps}
+use Rattle.reconfigure.proofs.Laws.Demand3.{AwaitsSync}
 use Rattle.reconfigure.specs.Reconfigured.{Reconfigured, unchanged, reconfigured_after, reconfigured}
-use Rattle.reconfigure.specs.Laws.AnswerCases.{inconsistent_so, wrong_memory_so, not_hunting_so, compiled_so, refused_so}
+use Rattle.reconfigure.proofs.Laws.AnswerCases.{inconsistent_so, wrong_memory_so, not_hunting_so, compiled_so, refused_so}
 use Rattle.reconfigure.specs.Promise.{Promised}
-use Rattle.reconfigure.specs.Laws.PromiseKept.{awaits_sync, accepted_so, promised}
+use Rattle.reconfigure.proofs.Laws.PromiseKept.{awaits_sync, accepted_so, promised}
 use Rattle.reconfigure.proofs.reconfigure.Goals as goal
 
 module _ (e : Record) (m : List ℕ) (r : FrameRange) (b out : List ℕ) (bytes : AreBytes b) (full : length e.frame ≡ 213) where

@@ -17,7 +17,7 @@ use Rattle.config.specs.DataWords.{checked, crc_word, far_word, cmd_word, frame_
 use Rattle.words.specs.WordsInBytes.{word_of}
 use Rattle.config.specs.StreamBytes.{gathered, byte}
 use Rattle.record.specs.Consistency.{current_fits, data_fits, phase_fits, consistent}
-use Rattle.config.specs.Laws.StaysSet.{header_plain}
+use Rattle.config.proofs.Laws.StaysSet.{header_plain}
 use Rattle.record.specs.Laws.StaysConsistent.{Consistent, to_items, to_filling, partial_fine}
 use Rattle.registers.specs.declared.Register.{Register}
 use Rattle.config.specs.declared.Open.{Open}

@@ -5,7 +5,7 @@ use Rattle.std.proofs.Common.{◌∙◌, arith, add-one, length-append}
 use Rattle.std.proofs.lemmas.List.Edits.{sets}
 use Rattle.words.specs.WordsInBytes.{words_from, words_at, put_words, starts, has_words}
 use Rattle.words.proofs.Laws.WordBytes.{bytes_length}
-use Rattle.words.specs.Laws.WordReads.{words_next}
+use Rattle.words.proofs.Laws.WordReads.{words_next}
 use Rattle.words.proofs.Laws.WordStores.{sets_all, put_append}
 use Rattle.words.proofs.Laws.WordTests.{has_append}
 use Rattle.config.specs.declared.Phase.{Phase}

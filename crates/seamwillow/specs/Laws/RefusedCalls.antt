@@ -17,7 +17,7 @@ use Rattle.loader.specs.Load.{load}
 use Rattle.loader.specs.Laws.Pieces.{load_inconsistent, load_wrong_memory}
 use Rattle.layout.specs.declared.FrameRange.{FrameRange}
 use Rattle.reconfigure.specs.Reconfigured.{reconfigured_after, reconfigured}
-use Rattle.reconfigure.specs.Laws.AnswerCases.{inconsistent_so}
+use Rattle.reconfigure.proofs.Laws.AnswerCases.{inconsistent_so}
 use Rattle.record_image.specs.Image.{record_length, encoded}
 use Rattle.record_image.specs.Decode.{decoded}
 use Rattle.record_image.specs.Compare.{is_image, accepted_image}

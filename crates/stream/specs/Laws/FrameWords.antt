@@ -4,7 +4,7 @@ use Rattle.std.specs.Prelude.{◌≡◌, ℕ, zero, suc, ◌+◌, ◌*◌, List,
 use Rattle.std.proofs.Common.{sym, arith, zero-mul, suc-mul}
 use Rattle.layout.specs.Step.{frames}
 use Rattle.words.specs.WordsInBytes.{words_from}
-use Rattle.words.specs.Laws.WordReads.{words_take, words_add}
+use Rattle.words.proofs.Laws.WordReads.{words_take, words_add}
 use Rattle.stream.specs.Stream.{frames_words}
 
 pub frames_from : (l k : ℕ) (xs : List ℕ) → frames_words l (frames l k xs) ≡ words_from (k * l) xs

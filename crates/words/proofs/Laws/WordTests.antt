@@ -7,7 +7,7 @@ use Rattle.std.proofs.Math.Bool.{and_assoc, and-false, and-eq-true_iff}
 use Rattle.words.specs.WordsInBytes.{bytes_of, word_at, starts, has_words}
 use Rattle.words.specs.Laws.ByteLists.{AreBytes, byte_at}
 use Rattle.words.proofs.Laws.WordBytes.{bytes_length, bytes_append, word_bytes, four_back}
-use Rattle.words.specs.Laws.WordReads.{word_drop, four_bytes}
+use Rattle.words.proofs.Laws.WordReads.{word_drop, four_bytes}
 
 -- ---- lists that start with lists
 

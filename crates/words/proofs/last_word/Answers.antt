@@ -2,7 +2,7 @@
 -- By what `byte_at` ensures of each byte, and the law of reading past the end.
 use mathlib.Core.Path.{sym}
 use Rattle.words.specs.WordsInBytes.{word_at}
-use Rattle.words.specs.Laws.WordReads.{word_past}
+use Rattle.words.proofs.Laws.WordReads.{word_past}
 use borrow.Author.Rules.{rules}
 use Rattle.words.proofs.last_word.Goals as goal
 

@@ -5,7 +5,7 @@ use Prim.Native.Nat.{ℕ, suc, ◌-◌}
 use native.Mathlib.Omega.{arith}
 use lib.ListN.{drop}
 use Rattle.words.specs.WordsInBytes.{words_from}
-use Rattle.words.specs.Laws.WordReads.{words_next}
+use Rattle.words.proofs.Laws.WordReads.{words_next}
 use Rattle.compiler.specs.Inner.FrameDataWords.{left_next, left_none}
 use Rattle.compiler.proofs.frames.put_data.Goals as goal
 

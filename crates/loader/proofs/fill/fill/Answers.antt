@@ -8,7 +8,7 @@ use native.Mathlib.Omega.{arith}
 use Rattle.crc16.specs.CrcRegister.{fed_words}
 use Rattle.crc16.proofs.Laws.NibbleLookup.{feed_with_entries}
 use Rattle.words.specs.WordsInBytes.{word_at, words_from, words_at}
-use Rattle.words.specs.Laws.WordReads.{words_next}
+use Rattle.words.proofs.Laws.WordReads.{words_next}
 use Rattle.loader.specs.Inner.FillWords.{last_of, kept_all}
 use Rattle.loader.proofs.fill.fill.Goals as goal
 

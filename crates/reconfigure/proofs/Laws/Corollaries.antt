@@ -19,7 +19,7 @@ use Rattle.loader.specs.Load.{load}
 use Rattle.loader.specs.Laws.Pieces.{load_accepted, later}
 use Rattle.loader.specs.Laws.UntouchedFrames.{run_buffer, load_keeps}
 use Rattle.loader.specs.Laws.LoadKeeps.{load_pieces}
-use Rattle.reconfigure.specs.Laws.Demand3.{AwaitsSync, stream_effect}
+use Rattle.reconfigure.proofs.Laws.Demand3.{AwaitsSync, stream_effect}
 
 module _ (d n : ℕ) (r : FrameRange) (b : List ℕ) (bytes : AreBytes b) (taken : check d r b ≡ Answer.Done n) (e : Record) (m : List ℕ) (w : AwaitsSync d e m) where
   -- the record and the memory that the load leaves

@@ -11,9 +11,9 @@ use Rattle.record.specs.Laws.FreshRecord.{powered_so, fresh_consistent}
 use Rattle.layout.specs.Laws.AcceptedLayout.{accepted}
 use Rattle.layout.specs.declared.FrameRange.{FrameRange}
 use Rattle.compiler.specs.Compiled.{compiled}
-use Rattle.compiler.specs.Laws.CompilerAnswer.{compiled_accepts}
+use Rattle.compiler.proofs.Laws.CompilerAnswer.{compiled_accepts}
 use Rattle.loader.specs.Load.{load}
-use Rattle.reconfigure.specs.Laws.Demand3.{AwaitsSync, LoadEffect, demand_3}
+use Rattle.reconfigure.proofs.Laws.Demand3.{AwaitsSync, LoadEffect, demand_3}
 
 waits_fresh : (d : ℕ) → d ≤ 7 → AwaitsSync d (fresh d) (replicate (memory_at d) 0)
 unfolding fresh fresh_control

@@ -25,7 +25,7 @@ use Rattle.layout.specs.Laws.UnownedFrames.{outside_kept}
 use Rattle.layout.specs.declared.FrameRange.{FrameRange}
 use Rattle.stream.specs.Stream.{stream}
 use Rattle.compiler.specs.Compiled.{stream_of, stream_for, compiled}
-use Rattle.compiler.specs.Laws.CompilerAnswer.{accepted_length, compiled_accepts, compiled_written}
+use Rattle.compiler.proofs.Laws.CompilerAnswer.{accepted_length, compiled_accepts, compiled_written}
 use Rattle.loader.specs.Run.{run, ran}
 use Rattle.loader.specs.Load.{answer_of, finished, load}
 use Rattle.loader.specs.Laws.Pieces.{load_accepted}

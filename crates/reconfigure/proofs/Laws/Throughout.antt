@@ -12,7 +12,7 @@ use Rattle.words.specs.Laws.ByteLists.{AreBytes}
 use Rattle.parts.specs.FrameMemory.{frame_of, placed}
 use Rattle.parts.specs.Laws.FramePlacing.{placed_length, placed_reads_back, placed_other}
 use Rattle.config.specs.PhaseTests.{is_stopped}
-use Rattle.config.specs.Laws.StaysSet.{byte_keeps}
+use Rattle.config.proofs.Laws.StaysSet.{byte_keeps}
 use Rattle.config.specs.declared.Event.{Event}
 use Rattle.config.specs.declared.Event.TheVariants as Event
 use Rattle.answers.specs.declared.Answer.TheVariants as Answer
@@ -27,7 +27,7 @@ use Rattle.loader.specs.Load.{load}
 use Rattle.loader.specs.Laws.Pieces.{next, next_memory, byte_run, stopped_run, run_append, load_accepted}
 use Rattle.words.proofs.Laws.WordBytes.{first_bytes}
 use Rattle.loader.specs.Laws.UntouchedFrames.{buffered_length, run_device, run_buffer, run_keeps}
-use Rattle.reconfigure.specs.Laws.Demand3.{AwaitsSync, stream_effect}
+use Rattle.reconfigure.proofs.Laws.Demand3.{AwaitsSync, stream_effect}
 
 -- frame j of memory m' has the bytes that it has in m, or bytes x
 data Near (l j : ℕ) (x m m' : List ℕ) : Type 0 where

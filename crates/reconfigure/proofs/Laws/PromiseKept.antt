@@ -17,9 +17,9 @@ use Rattle.record.specs.Consistency.{consistent}
 use Rattle.record.specs.declared.Record.{Record}
 use Rattle.layout.specs.declared.FrameRange.{FrameRange}
 use Rattle.compiler.specs.Compiled.{compiled}
-use Rattle.compiler.specs.Laws.CompilerAnswer.{compiled_accepts, compiled_written}
+use Rattle.compiler.proofs.Laws.CompilerAnswer.{compiled_accepts, compiled_written}
 use Rattle.loader.specs.Load.{load}
-use Rattle.reconfigure.specs.Laws.Demand3.{AwaitsSync, stream_effect}
+use Rattle.reconfigure.proofs.Laws.Demand3.{AwaitsSync, stream_effect}
 use Rattle.reconfigure.specs.Reconfigured.{Reconfigured, reconfigured_after, reconfigured}
 use Rattle.reconfigure.specs.Promise.{Promised}
 

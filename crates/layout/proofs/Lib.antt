@@ -1,0 +1,1 @@
+pub mod Laws  -- what is proved of the definitions that the must-fail edits change
