@@ -13,7 +13,7 @@ use Rattle.config.specs.declared.Transition.{Transition}
 
 -- 01: "Hunting ends when the last four bytes since hunting began are AA 99 55 66"
 unfoldable pub is_sync : ℕ → ℕ → ℕ → ℕ → Bool
-is_sync a b c d = eqb a 0xaa && eqb b 0x99 && eqb c 0x55 && eqb d 0x66
+is_sync a b c d = eqb a 0xAA && eqb b 0x99 && eqb c 0x55 && eqb d 0x66
 
 unfoldable pub hunted : PartialWord → ℕ → Phase
 hunted PartialWord.Zero x = Phase.Hunting (PartialWord.One x)

@@ -12,9 +12,9 @@ part i r c b = record { idcode = i; rows = r; columns = c; ram_columns = b }
 -- 01: the table of IDCODE, R, C and B by device number; the IDCODEs are 001's, Table 8
 unfoldable pub parts : List Part
 parts =
-    part 0x0140d093 16 12 1
+    part 0x0140D093 16 12 1
     ∷ part 0x01414093 24 20 2
-    ∷ part 0x0141c093 32 28 2
+    ∷ part 0x0141C093 32 28 2
     ∷ part 0x11428093 48 40 2
     ∷ part 0x01434093 64 52 2
     ∷ part 0x01440093 80 64 2

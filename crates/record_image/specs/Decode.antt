@@ -76,7 +76,7 @@ partial_of number bytes = cond (eqb number 0) PartialWord.Zero bytes
 
 -- 7: "current frame, FFFFFFFF for none"
 unfoldable pub current_of : ℕ → Current
-current_of n = cond (eqb n 0xffffffff) Current.NoFrame (Current.Frame n)
+current_of n = cond (eqb n 0xFFFFFFFF) Current.NoFrame (Current.Frame n)
 
 -- 8: "bit 0 IDCODE accepted, 1 FLR accepted, 2 a frame in the buffer, 3 GHIGH, 4 start pending, 5 a check has passed since START (or
 -- power-on), 6 started"

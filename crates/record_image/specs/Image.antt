@@ -81,7 +81,7 @@ bytes_number (PartialWord.Three a b c) = a * 2 ^ 16 + b * 2 ^ 8 + c
 -- 7: "current frame, FFFFFFFF for none"
 abbrev pub current_number : Current → ℕ
 current_number (Current.Frame n) = n
-current_number Current.NoFrame = 0xffffffff
+current_number Current.NoFrame = 0xFFFFFFFF
 
 -- a flag at its place
 abbrev pub flag_bit : Bool → ℕ → ℕ

@@ -7,5 +7,5 @@ use Rattle.parts.specs.declared.frame.NumberAnswer.TheVariants as NumberAnswer
 -- the frame number, FFFFFFFF for none and where refused
 abbrev pub number_told : NumberAnswer → ℕ
 number_told (NumberAnswer.Number n) = n
-number_told NumberAnswer.NoFrame = 0xffffffff
-number_told (NumberAnswer.Refused c) = 0xffffffff
+number_told NumberAnswer.NoFrame = 0xFFFFFFFF
+number_told (NumberAnswer.Refused c) = 0xFFFFFFFF

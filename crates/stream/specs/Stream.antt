@@ -52,7 +52,7 @@ stream_packets d ss = heading d ++ steps_packets d ss ++ ending
 
 -- "FFFFFFFF, sync"; RCRC comes first, so that the CRC begins at zero
 unfoldable pub words_of : ℕ → List Step → List ℕ
-words_of d ss = 0xffffffff ∷ 0xaa995566 ∷ packets_words 0 (stream_packets d ss)
+words_of d ss = 0xFFFFFFFF ∷ 0xAA995566 ∷ packets_words 0 (stream_packets d ss)
 
 -- the words' bytes, high byte first
 abbrev pub stream : ℕ → List Step → List ℕ

@@ -19,10 +19,10 @@ use Rattle.compiler.specs.declared.packet.Cursor.{Cursor}
 
 -- "FFFFFFFF, sync"
 abbrev pub synced : List ℕ → List ℕ
-synced out = put_words out 0 (0xffffffff ∷ 0xaa995566 ∷ [])
+synced out = put_words out 0 (0xFFFFFFFF ∷ 0xAA995566 ∷ [])
 
 pub synced_length : (out : List ℕ) → length (synced out) ≡ length out
-synced_length out = length-sets out 0 (bytes_of (0xffffffff ∷ 0xaa995566 ∷ []))
+synced_length out = length-sets out 0 (bytes_of (0xFFFFFFFF ∷ 0xAA995566 ∷ []))
 
 -- a layout that was read has the stream of its steps
 pub stream_read : (d : ℕ) (r : Reading (List Step)) → is_read r ≡ true → stream_of d r ≡ stream d (listed r)
@@ -38,5 +38,5 @@ module _ (d : ℕ) (ss : List Step) (out : List ℕ) (fits : length (stream d ss
   pub stream_written : (after : List ℕ) (end : Cursor) → Written (synced out) (cursor_at 8 0) (stream_packets d ss) after end → after ≡ overwritten (stream d ss) out
   unfolding words_of
   stream_written after end w =
-      w.bytes ∙ put_append out 0 (0xffffffff ∷ 0xaa995566 ∷ []) (packets_words 0 (stream_packets d ss)) ∙ sets-eq (stream d ss) out 0 (omega arith)
+      w.bytes ∙ put_append out 0 (0xFFFFFFFF ∷ 0xAA995566 ∷ []) (packets_words 0 (stream_packets d ss)) ∙ sets-eq (stream d ss) out 0 (omega arith)
       ∙ ap (λ (n : ℕ). stream d ss ++ drop n out) (zero-add (length (stream d ss)))

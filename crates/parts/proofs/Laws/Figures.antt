@@ -71,5 +71,5 @@ length_fits d = figure_limit frame_length 213 d length_limit
 pub count_fits : (d : ℕ) → count_at d ≤ 1945
 count_fits d = figure_limit frame_count 1945 d count_limit
 
-pub idcode_fits : (d : ℕ) → idcode_at d ≤ 0xffffffff
-idcode_fits d = figure_limit idcode_of 0xffffffff d idcode_limit
+pub idcode_fits : (d : ℕ) → idcode_at d ≤ 0xFFFFFFFF
+idcode_fits d = figure_limit idcode_of 0xFFFFFFFF d idcode_limit

@@ -33,7 +33,7 @@ configuration_bits = refl
 -- ---- the limits of every part
 
 within : Part → Bool
-within p = leb p.rows 104 && leb p.columns 80 && leb p.ram_columns 4 && leb p.idcode 0xffffffff
+within p = leb p.rows 104 && leb p.columns 80 && leb p.ram_columns 4 && leb p.idcode 0xFFFFFFFF
 
 all : (Part → Bool) → List Part → Bool
 all f [] = true
@@ -48,7 +48,7 @@ at f (p ∷ ps) z t (suc k) h = at f ps z ((and-eq-true_iff (f p) (all f ps)).0 
 limits : (p : Part) → within p ≡ true → Limits p
 unfolding within
 limits p t =
-    let all = (and-eq-true_iff (leb p.rows 104 && leb p.columns 80 && leb p.ram_columns 4) (leb p.idcode 0xffffffff)).0 t in
+    let all = (and-eq-true_iff (leb p.rows 104 && leb p.columns 80 && leb p.ram_columns 4) (leb p.idcode 0xFFFFFFFF)).0 t in
     let both = (and-eq-true_iff (leb p.rows 104 && leb p.columns 80) (leb p.ram_columns 4)).0 all.0 in
     let first = (and-eq-true_iff (leb p.rows 104) (leb p.columns 80)).0 both.0 in
     record { rows = leb-true _ _ first.0; columns = leb-true _ _ first.1; ram_columns = leb-true _ _ both.1; idcode = leb-true _ _ all.1 }
@@ -67,7 +67,7 @@ unfolding memory_length
 memory_limit p l = mul-le-mul (mul-le-mul (le_refl 4) (length_limit p l)) (count_limit p l)
 
 -- IDCODE is a word
-pub idcode_limit : (p : Part) → Limits p → idcode_of p ≤ 0xffffffff
+pub idcode_limit : (p : Part) → Limits p → idcode_of p ≤ 0xFFFFFFFF
 unfolding idcode_of
 idcode_limit p l = l.idcode
 

@@ -6,4 +6,4 @@ pub record Limits (p : Part) : Type 0 where
   pub rows : p.rows ≤ 104
   pub columns : p.columns ≤ 80
   pub ram_columns : p.ram_columns ≤ 4
-  pub idcode : p.idcode ≤ 0xffffffff
+  pub idcode : p.idcode ≤ 0xFFFFFFFF

@@ -33,14 +33,14 @@ pushed (PartialWord.Two a b) x = PartialWord.Three a b x
 pushed (PartialWord.Three a b c) x = PartialWord.Three b c x
 
 -- FF ends no sync word
-ones_hunt : (b : PartialWord) → hunted b 0xff ≡ Phase.Hunting (pushed b 0xff)
+ones_hunt : (b : PartialWord) → hunted b 0xFF ≡ Phase.Hunting (pushed b 0xFF)
 unfolding hunted is_sync
 ones_hunt PartialWord.Zero = refl
 ones_hunt (PartialWord.One a) = refl
 ones_hunt (PartialWord.Two a b) = refl
 ones_hunt (PartialWord.Three a b c) = simp and-false
 
-ones_left : (b : PartialWord) → pushed (pushed (pushed (pushed b 0xff) 0xff) 0xff) 0xff ≡ PartialWord.Three 0xff 0xff 0xff
+ones_left : (b : PartialWord) → pushed (pushed (pushed (pushed b 0xFF) 0xFF) 0xFF) 0xFF ≡ PartialWord.Three 0xFF 0xFF 0xFF
 ones_left PartialWord.Zero = refl
 ones_left (PartialWord.One a) = refl
 ones_left (PartialWord.Two a b) = refl
@@ -60,22 +60,22 @@ module _ (c : Control) (f m : List ℕ) where
       )
       (ap (ran _ _) (omega arith))
 
-  ones_reach : (b : PartialWord) → Reaches (record_of (Phase.Hunting b) c f) m (0xffffffff ∷ []) (record_of (Phase.Hunting (PartialWord.Three 0xff 0xff 0xff)) (with_partial PartialWord.Zero c) f) m
+  ones_reach : (b : PartialWord) → Reaches (record_of (Phase.Hunting b) c f) m (0xFFFFFFFF ∷ []) (record_of (Phase.Hunting (PartialWord.Three 0xFF 0xFF 0xFF)) (with_partial PartialWord.Zero c) f) m
   unfolding bytes_of
   ones_reach b = record {
     runs_to = λ rest.
-        four_hunted b _ _ _ (Phase.Hunting (PartialWord.Three 0xff 0xff 0xff)) 0xff 0xff 0xff 0xff rest (ones_hunt b) (ones_hunt _) (ones_hunt _)
+        four_hunted b _ _ _ (Phase.Hunting (PartialWord.Three 0xFF 0xFF 0xFF)) 0xFF 0xFF 0xFF 0xFF rest (ones_hunt b) (ones_hunt _) (ones_hunt _)
         (ones_hunt _ ∙ ap Phase.Hunting (ones_left b));
   }
 
-  sync_reaches : Reaches (record_of (Phase.Hunting (PartialWord.Three 0xff 0xff 0xff)) c f) m (0xaa995566 ∷ []) (record_of (Phase.Header Open.Closed) (with_partial PartialWord.Zero c) f) m
+  sync_reaches : Reaches (record_of (Phase.Hunting (PartialWord.Three 0xFF 0xFF 0xFF)) c f) m (0xAA995566 ∷ []) (record_of (Phase.Header Open.Closed) (with_partial PartialWord.Zero c) f) m
   unfolding bytes_of hunted is_sync
   sync_reaches = record {
     runs_to = λ rest.
-        four_hunted _ (PartialWord.Three 0xff 0xff 0xaa) (PartialWord.Three 0xff 0xaa 0x99) (PartialWord.Three 0xaa 0x99 0x55) (Phase.Header Open.Closed) 0xaa 0x99 0x55 0x66 rest refl refl refl refl;
+        four_hunted _ (PartialWord.Three 0xFF 0xFF 0xAA) (PartialWord.Three 0xFF 0xAA 0x99) (PartialWord.Three 0xAA 0x99 0x55) (Phase.Header Open.Closed) 0xAA 0x99 0x55 0x66 rest refl refl refl refl;
   }
 
 -- 01, "Waiting for sync is phase hunting, with any bytes remembered"
 pub hunt_ends : (b : PartialWord) (c : Control) (f m : List ℕ)
-    → Reaches (record_of (Phase.Hunting b) c f) m (0xffffffff ∷ 0xaa995566 ∷ []) (record_of (Phase.Header Open.Closed) (with_partial PartialWord.Zero c) f) m
+    → Reaches (record_of (Phase.Hunting b) c f) m (0xFFFFFFFF ∷ 0xAA995566 ∷ []) (record_of (Phase.Header Open.Closed) (with_partial PartialWord.Zero c) f) m
 hunt_ends b c f m = reaches_on (ones_reach c f m b) (sync_reaches (with_partial PartialWord.Zero c) f m)

@@ -32,12 +32,12 @@ reached ws = let f = taken ws in (f.phase, consistent f.phase f.control)
 
 -- the sync word, FLR 36, the XC3S50's IDCODE, CMD WCFG, the header of an FDRI packet of one frame
 abbrev opening : List ℕ
-opening = 0xaa995566 ∷ 0x30016001 ∷ 36 ∷ 0x3001c001 ∷ 0x0140d093 ∷ 0x30008001 ∷ 1 ∷ 0x30004025 ∷ []
+opening = 0xAA995566 ∷ 0x30016001 ∷ 36 ∷ 0x3001C001 ∷ 0x0140D093 ∷ 0x30008001 ∷ 1 ∷ 0x30004025 ∷ []
 
 -- 01: "The device record holds one of five phases: hunting, header, data, crc, stopped"; "A record is consistent if". No word; the sync
 -- word; one word of frame data; all 37; and FFFFFFFF as a header, stop 1
 pub each_phase :
-    map reached ([] ∷ (0xaa995566 ∷ []) ∷ (opening ++ 0 ∷ []) ∷ (opening ++ replicate 37 0) ∷ (0xaa995566 ∷ 0xffffffff ∷ []) ∷ [])
+    map reached ([] ∷ (0xAA995566 ∷ []) ∷ (opening ++ 0 ∷ []) ∷ (opening ++ replicate 37 0) ∷ (0xAA995566 ∷ 0xFFFFFFFF ∷ []) ∷ [])
     ≡ (Phase.Hunting PartialWord.Zero, true) ∷ (Phase.Header Open.Closed, true) ∷ (Phase.Data Register.Fdri 36 1, true) ∷ (Phase.Crc, true) ∷ (Phase.Stopped Stop.BadHeader, true) ∷ []
 unfolding input shift shift_in feed parts part_of figure_of idcode_of frame_length frame_count bytes_of address_of register_at hold fed_crc type1 packet ready counted begin type_one_write obeyed signalled command_crc command_phase acted ended onward cmd_word fdri_word idcode_word flr_word data_word word is_sync hunted gathered byte raised current_fits data_fits phase_fits consistent fresh_control fresh
 each_phase = refl

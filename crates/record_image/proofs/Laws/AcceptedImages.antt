@@ -43,7 +43,7 @@ module _ (bytes : List ℕ) (small : AreBytes bytes) where
 
   current_small : (k : ℕ) → CurrentInRange (current_of (image_word bytes k))
   unfolding current_of
-  current_small k = either CurrentInRange (eqb (image_word bytes k) 0xffffffff) (λ _. tt) (λ _. image_word_small k)
+  current_small k = either CurrentInRange (eqb (image_word bytes k) 0xFFFFFFFF) (λ _. tt) (λ _. image_word_small k)
 
   -- a record that is read from bytes is in range
   pub decoded_range : InRange (decoded bytes)

@@ -282,7 +282,7 @@ current_range d Current.NoFrame h = tt
 
 current_whole : (d : ℕ) (n : Current) → current_fits d n ≡ true → kept_current n ≡ n
 unfolding current_fits
-current_whole d (Current.Frame n) h = rw (ne_eqb n 0xffffffff (λ e. omega (arith, ltb-true n (count_at d) h, count_fits d)))
+current_whole d (Current.Frame n) h = rw (ne_eqb n 0xFFFFFFFF (λ e. omega (arith, ltb-true n (count_at d) h, count_fits d)))
 current_whole d Current.NoFrame h = refl
 
 -- from what is remembered of a consistent record its image loses nothing

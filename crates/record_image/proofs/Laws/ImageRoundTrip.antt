@@ -58,12 +58,12 @@ cond_twice : (on : Bool) (n : ℕ) → cond on (cond on n 0) 0 ≡ cond on n 0
 cond_twice true n = refl
 cond_twice false n = refl
 
-frame_kept : (none : Bool) (n : ℕ) → eqb n 0xffffffff ≡ none → current_number (cond none Current.NoFrame (Current.Frame n)) ≡ n
-frame_kept true n e = sym (eqb-true n 0xffffffff e)
+frame_kept : (none : Bool) (n : ℕ) → eqb n 0xFFFFFFFF ≡ none → current_number (cond none Current.NoFrame (Current.Frame n)) ≡ n
+frame_kept true n e = sym (eqb-true n 0xFFFFFFFF e)
 frame_kept false n e = refl
 
 current_kept : (c : Current) → current_number (kept_current c) ≡ current_number c
-current_kept (Current.Frame n) = frame_kept (eqb n 0xffffffff) n refl
+current_kept (Current.Frame n) = frame_kept (eqb n 0xFFFFFFFF) n refl
 current_kept Current.NoFrame = refl
 
 head_kept : (p : Phase) (c : Control) → head_words (kept_phase p) (kept_control p c) ≡ head_words p c

@@ -25,7 +25,7 @@ frame_fits device true n h = refl
 frame_fits device false n h = h
 
 current_fits_lem : (device : ℕ) (c : Current) → current_fits device c ≡ true → current_fits device (kept_current c) ≡ true
-current_fits_lem device (Current.Frame n) h = frame_fits device (eqb n 0xffffffff) n h
+current_fits_lem device (Current.Frame n) h = frame_fits device (eqb n 0xFFFFFFFF) n h
 current_fits_lem device Current.NoFrame h = h
 
 -- words filled count in data of FDRI only

@@ -59,7 +59,7 @@ kept_partial (Phase.Stopped s) b = b
 
 -- 7: "FFFFFFFF for none"
 abbrev pub kept_current : Current → Current
-kept_current (Current.Frame n) = cond (eqb n 0xffffffff) Current.NoFrame (Current.Frame n)
+kept_current (Current.Frame n) = cond (eqb n 0xFFFFFFFF) Current.NoFrame (Current.Frame n)
 kept_current Current.NoFrame = Current.NoFrame
 
 abbrev pub kept_control : Phase → Control → Control

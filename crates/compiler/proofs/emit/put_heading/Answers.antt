@@ -17,7 +17,7 @@ pub returns : goal.returns
 unfolding size
 returns c =
     let out = c.args.output.now in
-    let begun : c.put_word-2.new.output ≡ synced out = c.put_word-2.ensures ∙ rw c.put_word.ensures (put_append out 0 (0xffffffff ∷ []) (0xaa995566 ∷ [])) in
+    let begun : c.put_word-2.new.output ≡ synced out = c.put_word-2.ensures ∙ rw c.put_word.ensures (put_append out 0 (0xFFFFFFFF ∷ []) (0xAA995566 ∷ [])) in
     let reset = c.put_command-reset.ensures in
     let sized = c.put_write-sized.ensures in
     let code = c.put_write.ensures in
