@@ -1,5 +1,5 @@
 -- What each nibble that is fed adds to the register, as a table of 256 entries.
--- In no paper: how the code feeds a word faster. The register is linear over xor, so `feed` is the xor of the entries that its input picks (specs/Laws/NibbleLookup.antt).
+-- In no paper: how the code feeds a word faster. The register is linear over xor, so `feed` is the xor of the entries that its input picks (proofs/Laws/NibbleLookup.antt).
 use Rattle.std.specs.Prelude.{List, [], ◌∷◌, ℕ, zero, suc, ◌+◌, ◌*◌, ◌/◌, ◌%◌, ◌^◌, get_or}
 use Rattle.std.specs.Int.Bits.{bit_xor}
 use Rattle.crc16.specs.CrcRegister.{feed}
