@@ -12,6 +12,7 @@ use answers::{Answer, Refusal};
 use layout::FrameRange;
 
 // Compiles a layout into an output: 21, 37, the layout's refusals, then 36. A refusal leaves every byte of the output.
+#[tactic(auto, unfolding(crate::specs::Compiled::compiled, crate::specs::Compiled::compiled_after,))]
 pub fn compile(device: u32, range: FrameRange, layout: &[u8], output: &mut [u8]) -> Answer
     ensures value { result ≡ (compiled device range layout.now output.old).answer }
     ensures output_after { output.new ≡ (compiled device range layout.now output.old).output }

@@ -72,6 +72,7 @@ pub(crate) fn put_write(
 }
 
 // Writes a command. RCRC makes the CRC zero.
+#[tactic(auto, unfolding(stream::specs::StreamPackets::crc_of, stream::specs::StreamPackets::packet_words, stream::specs::StreamPackets::packets_words, stream::specs::Laws::PacketsJoined::crc_after,))]
 pub(crate) fn put_command(
     table: &CrcTable,
     output: &mut [u8],

@@ -92,6 +92,7 @@ fn put(register: Register, word: u32, control: Control) -> Control
 }
 
 // A word to CRC; the auto CRC word too.
+#[tactic(auto, unfolding(crate::specs::DataWords::checked, crate::specs::ControlState::raised, registers::specs::RegisterAddresses::address_of,))]
 pub(crate) fn crc_word(phase: Phase, control: Control, word: u32) -> Transition
     ensures { result ≡ crc_word phase control word }
 {

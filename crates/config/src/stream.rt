@@ -7,6 +7,7 @@ use crate::header::going;
 use crate::{Control, Open, PartialWord, Phase, Transition, word};
 use words::word_of;
 
+#[tactic(auto, unfolding(crate::specs::StreamBytes::is_sync))]
 fn is_sync(a: u8, b: u8, c: u8, d: u8) -> bool
     ensures { result ≡ is_sync a b c d }
 {

@@ -26,6 +26,7 @@ fn refused(refusal: Refusal, at: usize) -> Answer
 }
 
 // The list of steps, and the end.
+#[tactic(auto, using(crate::specs::Inner::CheckLoops::steps_trailing, crate::specs::Inner::CheckLoops::steps_accepted,))]
 fn layout_steps(device: u32, range: FrameRange, layout: &[u8], count: u32, start: usize) -> Answer
     requires { count ≤ most_steps }
     ensures { result ≡ check_answer (length_at device) (end_read layout.now (desk_steps device range layout.now count start)) }

@@ -18,6 +18,7 @@ pub enum Number {
 const FIFTH_WEIGHT: u32 = 268435456;
 
 // The last byte x of a number, over the value of the groups before it.
+#[tactic(auto, unfolding(crate::specs::Number::last_group, crate::specs::Inner::Groups::scaled))]
 fn last_group(first: bool, x: u8, low: u32, weight: u32, next: usize) -> Number
     requires { low + weight * x < 2 ^ 32 }
     ensures { result ≡ scaled low weight (last_group first x next) }
@@ -34,6 +35,7 @@ fn last_group(first: bool, x: u8, low: u32, weight: u32, next: usize) -> Number
 }
 
 // The number that begins at an offset.
+#[tactic(auto, using(crate::specs::Inner::Groups::fifth_high))]
 pub fn read_number(bytes: &[u8], at: usize) -> Number
     ensures { result ≡ number_at bytes.now at }
 {

@@ -53,6 +53,7 @@ fn run_of(block: u32, major: u32, columns: u32, minors: u32) -> Run
 }
 
 // The runs of a part's columns, in the order in which its frames are numbered.
+#[tactic(auto, unfolding(crate::specs::Columns::runs))]
 fn run_at(part: Part, i: u32) -> Run
     requires { (i < 6) × Limits part }
     ensures { result ≡ get_or (runs part) i (run 0 0 0 0) }

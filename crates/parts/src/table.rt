@@ -73,6 +73,7 @@ const PARTS: [Part; 8] = [
 ];
 
 // The part of a device number.
+#[tactic(auto, unfolding(crate::specs::Table::part_of, crate::specs::Table::parts))]
 pub fn part_of(device: u32) -> PartAnswer
     ensures { result ≡ part_of device }
 {

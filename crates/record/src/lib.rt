@@ -32,6 +32,7 @@ pub struct PoweredOn {
 }
 
 // The record is consistent.
+#[tactic(auto, unfolding(crate::specs::Consistency::consistent))]
 pub fn consistent(record: Record) -> bool
     ensures { result ≡ consistent «record».phase «record».control }
 {

@@ -1,6 +1,6 @@
 // Words 0 to 23 of the image: phase and control state as numbers.
 ghost use Rattle.std.specs.Prelude.{◌≡◌, ◌≤◌};
-ghost use Rattle.record_image.specs.Image.{phase_number, open_number, argument as argumentOf, words_left, words_filled};
+ghost use Rattle.record_image.specs.Image.{phase_number, open_number, argument as argument_of, words_left, words_filled};
 ghost use Rattle.record_image.specs.Image.{pending as pending_of, bytes_count, bytes_number, current_number, flag_bit, flag_bits, head_words};
 
 use answers::Stop;
@@ -32,7 +32,7 @@ fn open_number(opened: Open) -> u32
 
 // Word 2.
 fn argument(phase: Phase) -> u32
-    ensures { result ≡ argumentOf phase }
+    ensures { result ≡ argument_of phase }
 {
     match phase {
         Phase::Hunting(_) => 0,

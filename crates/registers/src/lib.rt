@@ -67,6 +67,7 @@ pub fn is_lout(register: Register) -> bool
 }
 
 // The register at an address, if there is one and it can be written.
+#[tactic(auto, unfolding(crate::specs::RegisterAddresses::register_at))]
 pub fn register_at(address: u32) -> RegisterAnswer
     ensures { result ≡ register_at address }
 {

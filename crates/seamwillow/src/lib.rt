@@ -99,6 +99,7 @@ pub extern "C" fn sw_address_fields(address: u32, block: &mut u32, major: &mut u
 
 // Power-on: the fresh record's image and the memory are written, 01's number is returned.
 #[unsafe(no_mangle)]
+#[tactic(auto, unfolding(crate::specs::RecordCalls::powered_image))]
 pub extern "C" fn sw_power_on(device: u32, state: &mut [u8], memory: &mut [u8]) -> u32
     ensures value { result ≡ (powered_image device state.old memory.old).code }
     ensures state_after { state.new ≡ (powered_image device state.old memory.old).image }

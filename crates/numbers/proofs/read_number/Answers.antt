@@ -5,52 +5,25 @@ use Prim.Native.Nat.{ℕ, ◌^◌, ◌≤◌}
 use native.Mathlib.Omega.{arith}
 use lib.ListN.{get_or}
 use Rattle.numbers.specs.Inner.Groups.{reading_start, reading_high, reading_last, reading_more, reading_weight, reading_end}
-use Rattle.numbers.proofs.read_number.Goals.{then-weight-eq-FIFTH_WEIGHT+else-x-gt15, else-weight-eq-FIFTH_WEIGHT}
 use Rattle.numbers.proofs.read_number.Goals as goal
-
--- past the first test a fifth byte is at most 15
-abbrev Fifth : (weight byte : ℕ) → Type 0
-Fifth weight byte = weight ≡ 128 ^ 4 → byte ≤ 15
-
-fifth_last : (c : goal.Then-x-lt128) → Fifth c.loop-i.weight (get_or c.args.bytes.now c.loop-i.i 0)
-fifth_last c =
-    λ e. elim c.if-weight-eq-FIFTH_WEIGHT.branch [
-      | then-weight-eq-FIFTH_WEIGHT+else-x-gt15 w ↦ omega arith
-      | else-weight-eq-FIFTH_WEIGHT w ↦ absurd (omega arith)
-    ]
-
-fifth_more : (c : goal.Else-x-lt128) → Fifth c.loop-i.weight (get_or c.args.bytes.now c.loop-i.i 0)
-fifth_more c =
-    λ e. elim c.if-weight-eq-FIFTH_WEIGHT.branch [
-      | then-weight-eq-FIFTH_WEIGHT+else-x-gt15 w ↦ omega arith
-      | else-weight-eq-FIFTH_WEIGHT w ↦ absurd (omega arith)
-    ]
 
 pub loop-i-preserved : goal.loop-i-preserved
 loop-i-preserved c =
     let l = c.loop-i in
-    reading_more l.invariant (omega arith) (c.type_inv.bytes l.i).fits (omega arith) (fifth_more c)
+    reading_more l.invariant (omega arith) (c.type_inv.bytes l.i).fits (omega arith) (λ e. grind arith)
 
 pub loop-i-init : goal.loop-i-init
 loop-i-init c = reading_start _ _
 
-pub returns-then-x-gt15 : goal.returns-then-x-gt15
-returns-then-x-gt15 c = let l = c.loop-i in reading_high l.invariant (omega arith) (omega arith) (omega arith)
-
 pub last_group-requires : goal.last_group-requires
 last_group-requires c =
     let l = c.loop-i in
-    (reading_last l.invariant (omega arith) (omega arith) (fifth_last c)).0
+    (reading_last l.invariant (omega arith) (omega arith) (λ e. grind arith)).0
 
 pub returns-then-x-lt128 : goal.returns-then-x-lt128
 returns-then-x-lt128 c =
     let l = c.loop-i in
-    let fifth : Fifth l.weight (get_or c.args.bytes.now l.i 0) =
-    λ e. elim c.if-weight-eq-FIFTH_WEIGHT.branch [
-      | then-weight-eq-FIFTH_WEIGHT+else-x-gt15 w ↦ omega arith
-      | else-weight-eq-FIFTH_WEIGHT w ↦ absurd (omega arith)
-    ] in
-    rw c.last_group.ensures (reading_last l.invariant (omega arith) (omega arith) fifth).1
+    rw c.last_group.ensures (reading_last l.invariant (omega arith) (omega arith) (λ e. grind arith)).1
 
 pub overflow_mul-low : goal.overflow_mul-low
 overflow_mul-low c = omega (arith, (loop-i-preserved c).under, reading_weight (loop-i-preserved c))

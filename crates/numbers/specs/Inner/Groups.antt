@@ -108,3 +108,10 @@ reading_weight {weight = w} r = weight_le w r.left r.weighs
 pub reading_end : {b : List ℕ} {at i low weight : ℕ} → GroupsRead b at i low weight → length b ≤ i → Number.Refused Refusal.Missing ≡ number_at b at
 unfolding groups scaled
 reading_end {b} r h = rw (drop_of_length-le b h) at r.is
+
+-- a fifth byte above 15, told of the groups from it on, so that a search finds it from what the loop keeps
+pub fifth_high : (b : List ℕ) (at i low weight left : ℕ) → weight * 128 ^ left ≡ 128 ^ 4 → weight ≡ 128 ^ 4 → i < length b → 15 < get_or b i 0
+    → scaled low weight (groups left (eqb i at) i (drop i b)) ≡ Number.Refused Refusal.BadForm
+unfolding groups scaled
+fifth_high b at i low weight zero e w h high = rw (drop-cons b i 0 h, lt-ltb 15 (get_or b i 0) high)
+fifth_high b at i low weight (suc k) e w h high = absurd (omega (arith, weight_le (weight * 128) k (fewer weight k e)))

@@ -56,13 +56,3 @@ loop-left-preserved c =
             (sym (step_multi _ _ _ _ l.words l.left l.at _ _ _ _ some (step ∙ w.in-MultiFrameWrite.is)) ∙ l.invariant.1),
       )
     ]
-
-pub returns-then-at-layout : goal.returns-then-at-layout
-returns-then-at-layout c =
-    let l = c.loop-left in
-    c.refused-then-at-layout.ensures ∙ sym (steps_trailing _ _ _ _ l.words l.left l.at c.loop-left-test.false c.if-at-layout.true) ∙ l.invariant.1
-
-pub returns : goal.returns
-returns c =
-    let l = c.loop-left in
-    sym (steps_accepted _ _ _ _ l.words l.left l.at c.loop-left-test.false c.if-at-layout.false) ∙ l.invariant.1
