@@ -2,7 +2,6 @@
 -- Source: docs/C-INTERFACE.md, sw_frame_number.
 use Rattle.std.specs.Prelude.{ℕ}
 use Rattle.parts.specs.declared.frame.NumberAnswer.{NumberAnswer}
-use Rattle.parts.specs.declared.frame.NumberAnswer.TheVariants as NumberAnswer
 
 -- the frame number, FFFFFFFF for none and where refused
 abbrev pub number_told : NumberAnswer → ℕ

@@ -5,7 +5,6 @@ use Rattle.answers.specs.StopsAndRefusals.{refusal_number}
 use Rattle.answers.specs.AnswerNumbers.{answer_number, answer_value, load_number}
 use Rattle.answers.specs.declared.Refusal.TheVariants as Refusal
 use Rattle.answers.specs.declared.Answer.{Answer}
-use Rattle.answers.specs.declared.Answer.TheVariants as Answer
 use Rattle.record.specs.PowerOn.{Outcome, power_on}
 use Rattle.loader.specs.Load.{load}
 use Rattle.layout.specs.declared.FrameRange.{FrameRange}

@@ -1,10 +1,9 @@
 -- `compiler::compile` meets its contract: the check's refusals, then the output's length, then the stream.
 -- By what an accepted check tells, once the answer is known.
-use mathlib.Core.Path.{◌∙◌, refl, sym, ap}
+use mathlib.Core.Path.{◌∙◌, sym}
 use native.Mathlib.Omega.{arith}
 use Rattle.layout.specs.Laws.AcceptedLayout.{accepted}
-use Rattle.compiler.specs.Compiled.{Compiled, compiled_after}
-use Rattle.compiler.proofs.Laws.CompilerAnswer.{accepted_read, accepted_length, accepts_compiled, short_compiled}
+use Rattle.compiler.proofs.Laws.CompilerAnswer.{accepted_read, accepted_length}
 use Rattle.compiler.proofs.compile.Goals as goal
 
 pub put_stream-requires : goal.put_stream-requires

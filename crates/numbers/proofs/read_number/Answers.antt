@@ -1,10 +1,7 @@
 -- `numbers::read_number` meets its contract. The invariant goes by what is left: the groups not yet read, over the value of those
 -- that were, give the number.
-use mathlib.Core.Path.{◌≡◌}
-use Prim.Native.Nat.{ℕ, ◌^◌, ◌≤◌}
 use native.Mathlib.Omega.{arith}
-use lib.ListN.{get_or}
-use Rattle.numbers.specs.Inner.Groups.{reading_start, reading_high, reading_last, reading_more, reading_weight, reading_end}
+use Rattle.numbers.specs.Inner.Groups.{reading_start, reading_last, reading_more, reading_weight, reading_end}
 use Rattle.numbers.proofs.read_number.Goals as goal
 
 pub loop-i-preserved : goal.loop-i-preserved

@@ -1,9 +1,6 @@
 -- `seamwillow::sw_frame_address` meets its contract: number and value of the answer; an address is a word.
 -- From what the three calls ensure, and the law that every address has 27 bits.
-use mathlib.Core.Path.{◌∙◌, ap}
 use native.Mathlib.Omega.{arith}
-use borrow.Author.Rules.{rules}
-use Rattle.answers.specs.AnswerNumbers.{answer_number, answer_value}
 use Rattle.parts.proofs.Laws.FrameNumbers.{told_small}
 use Rattle.seamwillow.proofs.sw_frame_address.Goals as goal
 

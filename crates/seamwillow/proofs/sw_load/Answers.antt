@@ -1,14 +1,10 @@
 -- `seamwillow::sw_load` meets its contract: an image that is accepted is loaded and written back, any other is refused.
 -- By the law of each of the two cases, from what the calls ensure.
-use mathlib.Core.Path.{◌≡◌, ◌∙◌, refl, ap}
-use borrow.Author.Tests.{not-true, not-false}
+use mathlib.Core.Path.{◌∙◌, refl, ap}
 use Rattle.answers.specs.AnswerNumbers.{load_number}
-use Rattle.loader.specs.Load.{load}
 use Rattle.record.specs.declared.Record.{Record}
 use Rattle.record_image.specs.Image.{encoded}
-use Rattle.record_image.specs.Compare.{accepted_image}
 use Rattle.seamwillow.specs.Laws.RefusedCalls.{compared, loaded_refused, loaded_done}
-use borrow.Author.Rules.{rules}
 use Rattle.seamwillow.proofs.sw_load.Goals as goal
 
 pub returns-then-not-matches : goal.returns-then-not-matches

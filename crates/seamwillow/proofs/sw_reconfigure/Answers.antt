@@ -1,13 +1,10 @@
 -- `seamwillow::sw_reconfigure` meets its contract: an image that is accepted is reconfigured and written back, any other is refused.
 -- By the law of each of the two cases, from what the calls ensure.
-use mathlib.Core.Path.{◌≡◌, ◌∙◌, refl, ap}
-use borrow.Author.Tests.{not-true, not-false}
-use borrow.Author.Rules.{rules}
+use mathlib.Core.Path.{◌∙◌, refl, ap}
 use Rattle.answers.specs.AnswerNumbers.{answer_number, answer_value}
 use Rattle.record.specs.declared.Record.{Record}
 use Rattle.layout.specs.Ownership.{range}
 use Rattle.record_image.specs.Image.{encoded}
-use Rattle.record_image.specs.Compare.{accepted_image}
 use Rattle.seamwillow.specs.Laws.RefusedCalls.{compared, reconfigured_refused, reconfigured_done}
 use Rattle.seamwillow.proofs.sw_reconfigure.Goals as goal
 

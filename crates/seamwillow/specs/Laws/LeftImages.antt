@@ -8,12 +8,9 @@ use Rattle.words.specs.Laws.ByteLists.{AreWords, AreBytes}
 use Rattle.words.proofs.Laws.WordBytes.{bytes_small}
 use Rattle.parts.specs.Table.{part_of, memory_at}
 use Rattle.parts.specs.declared.table.PartAnswer.{PartAnswer}
-use Rattle.parts.specs.declared.table.PartAnswer.TheVariants as PartAnswer
 use Rattle.answers.specs.declared.Answer.{Answer}
-use Rattle.answers.specs.declared.Answer.TheVariants as Answer
 use Rattle.config.specs.PhaseTests.{is_hunting}
 use Rattle.config.specs.declared.Event.{Event}
-use Rattle.config.specs.declared.Event.TheVariants as Event
 use Rattle.record.specs.Consistency.{consistent}
 use Rattle.record.specs.Laws.StaysConsistent.{byte_consistent}
 use Rattle.record.specs.PowerOn.{Outcome, fresh_control, fresh, powered, power_on}

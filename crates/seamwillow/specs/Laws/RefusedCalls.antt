@@ -9,7 +9,6 @@ use Rattle.record.specs.Consistency.{consistent}
 use Rattle.record.specs.declared.Record.{Record}
 use Rattle.answers.specs.declared.Refusal.TheVariants as Refusal
 use Rattle.answers.specs.declared.Answer.{Answer}
-use Rattle.answers.specs.declared.Answer.TheVariants as Answer
 use Rattle.record.specs.PowerOn.{power_on}
 use Rattle.parts.specs.Laws.Cases.{either}
 use Rattle.parts.specs.Table.{memory_at}

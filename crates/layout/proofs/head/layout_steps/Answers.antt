@@ -10,7 +10,7 @@ use Rattle.parts.proofs.Laws.Figures.{length_fits, count_fits}
 use Rattle.layout.specs.Ownership.{owns}
 use Rattle.layout.specs.StepReading.{step_at}
 use Rattle.layout.specs.Laws.StepViews.{write_view, multi_view}
-use Rattle.layout.specs.Inner.CheckLoops.{answer_summed, step_refused, step_write, step_multi, steps_trailing, steps_accepted}
+use Rattle.layout.specs.Inner.CheckLoops.{answer_summed, step_refused, step_write, step_multi}
 use Rattle.layout.specs.declared.step.StepAt.TheVariants as StepAt
 use Rattle.layout.proofs.head.layout_steps.Goals.{in-FrameWrite, in-MultiFrameWrite}
 use Rattle.layout.proofs.head.layout_steps.Goals as goal
