@@ -3,7 +3,7 @@
 
 ghost use Rattle.std.specs.Prelude.{◌≡◌};
 ghost use Rattle.answers.specs.StopsAndRefusals.{stop_number, refusal_number};
-ghost use Rattle.answers.specs.AnswerNumbers.{answer_number, answer_value, load_number};
+ghost use Rattle.answers.specs.AnswerNumbers.{refused, refused_number, answer_number, answer_value, load_number};
 
 // Why a load stopped: 01's stops 1 to 10 in their order.
 #[derive(Clone, Copy)]
@@ -43,17 +43,25 @@ pub enum Refusal {
     Trailing,
 }
 
-// Done with a value, or refused with what the refusal tells: an offset, the length needed, or 0.
+// A refusal with what it tells: an offset, the length needed, or 0.
 #[derive(Clone, Copy)]
-pub enum Answer {
-    Done(u64),
-    Refused { refusal: Refusal, told: u64 },
+pub struct Refused {
+    pub refusal: Refusal,
+    pub told: u64,
 }
 
-// What power-on or a load answers. Neither tells a value: the bytes taken stand beside the answer.
+// A refusal that tells 0.
+impl From<Refusal> for Refused {
+    ghost from_gives = { λ r e. e ≡ refused r 0 };
+
+    fn from(refusal: Refusal) -> Refused {
+        Refused { refusal, told: 0 }
+    }
+}
+
+// Why power-on or a load did not end well. The bytes taken stand beside the answer.
 #[derive(Clone, Copy)]
-pub enum LoadAnswer {
-    Done,
+pub enum LoadError {
     Stopped(Stop),
     Refused(Refusal),
 }
@@ -101,33 +109,40 @@ pub fn refusal_number(refusal: Refusal) -> u32
     }
 }
 
+// The number of a refusal, 0 where nothing is refused.
+pub fn refused_number<T: Drop>(answer: Result<T, Refusal>) -> u32
+    ensures { result ≡ refused_number answer }
+{
+    answer.err().map_or(0, refusal_number)
+}
+
 // The number of an answer, 0 where it is done.
-pub fn answer_number(answer: Answer) -> u32
+pub fn answer_number<T: Drop>(answer: Result<T, Refused>) -> u32
     ensures { result ≡ answer_number answer }
 {
     match answer {
-        Answer::Done(_) => 0,
-        Answer::Refused { refusal, told: _ } => refusal_number(refusal),
+        Ok(_) => 0,
+        Err(refused) => refusal_number(refused.refusal),
     }
 }
 
 // What an answer tells beside its number.
-pub fn answer_value(answer: Answer) -> u64
+pub fn answer_value(answer: Result<u64, Refused>) -> u64
     ensures { result ≡ answer_value answer }
 {
     match answer {
-        Answer::Done(value) => value,
-        Answer::Refused { refusal: _, told } => told,
+        Ok(value) => value,
+        Err(refused) => refused.told,
     }
 }
 
 // The number of what power-on or a load answers, 0 where it is done.
-pub fn load_number(answer: LoadAnswer) -> u32
+pub fn load_number(answer: Result<(), LoadError>) -> u32
     ensures { result ≡ load_number answer }
 {
     match answer {
-        LoadAnswer::Done => 0,
-        LoadAnswer::Stopped(stop) => stop_number(stop),
-        LoadAnswer::Refused(refusal) => refusal_number(refusal),
+        Ok(()) => 0,
+        Err(LoadError::Stopped(stop)) => stop_number(stop),
+        Err(LoadError::Refused(refusal)) => refusal_number(refusal),
     }
 }

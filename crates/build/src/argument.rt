@@ -4,53 +4,61 @@ ghost use Rattle.build.specs.Inner.Decimal.{parsed};
 
 use layout::FrameRange;
 use std::env::{Env, FillError};
+use std::fmt;
 
-// A number that was given, or text that is none.
+// What the arguments ask.
 #[derive(Clone, Copy)]
-pub enum Parsed {
-    Number(u32),
-    Malformed,
+pub struct Request {
+    pub device: u32,
+    pub range: FrameRange,
 }
 
-// What the arguments ask. Malformed: with the place of the first argument that is no number.
+// Why the arguments ask nothing. Malformed: with the place of the first argument that is no number.
 #[derive(Clone, Copy)]
-pub enum Request {
-    Compile { device: u32, range: FrameRange },
+pub enum ArgumentError {
     WrongCount,
-    Malformed(u64),
+    Malformed(usize),
+}
+
+impl fmt::Display for ArgumentError {
+    fn fmt<W: fmt::Write>(&self, f: &mut fmt::Formatter<W>) -> fmt::Result {
+        match self {
+            ArgumentError::WrongCount => {
+                f.write_str("three arguments are wanted, DEVICE FIRST COUNT")
+            }
+            ArgumentError::Malformed(i) => write!(
+                f,
+                "argument {i} of DEVICE FIRST COUNT is not a number under 4294967296 in one to ten decimal digits"
+            ),
+        }
+    }
 }
 
 // The number that a text spells.
-fn parse(text: &[u8]) -> Parsed
+fn parse(text: &[u8]) -> Option<u32>
     ensures { result ≡ parsed text.now }
 {
-    if text.len() == 0 {
-        return Parsed::Malformed;
+    if text.is_empty() {
+        return None;
     }
     let mut value: u64 = 0;
-    let mut i: usize = 0;
-    while i < text.len() {
-        let x = text[i];
-        if x < b'0' {
-            return Parsed::Malformed;
-        }
-        if b'9' < x {
-            return Parsed::Malformed;
+    for &x in text {
+        if !x.is_ascii_digit() {
+            return None;
         }
         value = 10 * value + (x - b'0') as u64;
         if 4294967295 < value {
-            return Parsed::Malformed;
+            return None;
         }
-        i += 1;
     }
-    Parsed::Number(value as u32)
+    Some(value as u32)
 }
 
 // The number of argument i. Ten digits hold every number; what is longer is read as empty.
-fn number(rt: &impl Env, i: usize) -> Parsed {
+fn number(rt: &impl Env, i: usize) -> Result<u32, ArgumentError> {
     let mut text = [0u8; 10];
     let n = rt.arg(i, &mut text).unwrap_or(0);
-    parse(&text[..n])
+    parse(&text[..n]).ok_or(ArgumentError::Malformed(i))
 }
 
 // Whether there is an argument i. No buffer is needed to tell.
@@ -59,27 +67,15 @@ fn is_given(rt: &impl Env, i: usize) -> bool {
 }
 
 // What the arguments ask. The first is the program's own name.
-pub(crate) fn read_arguments(rt: &impl Env) -> Request {
+pub(crate) fn read_arguments(rt: &impl Env) -> Result<Request, ArgumentError> {
     if !is_given(rt, 3) || is_given(rt, 4) {
-        return Request::WrongCount;
+        return Err(ArgumentError::WrongCount);
     }
-    let first = number(rt, 1);
-    let second = number(rt, 2);
-    let third = number(rt, 3);
-    let Parsed::Number(device) = first else {
-        return Request::Malformed(1);
-    };
-    let Parsed::Number(start) = second else {
-        return Request::Malformed(2);
-    };
-    let Parsed::Number(count) = third else {
-        return Request::Malformed(3);
-    };
-    Request::Compile {
-        device: device,
-        range: FrameRange {
-            first: start,
-            count: count,
-        },
-    }
+    let device = number(rt, 1)?;
+    let first = number(rt, 2)?;
+    let count = number(rt, 3)?;
+    Ok(Request {
+        device,
+        range: FrameRange { first, count },
+    })
 }

@@ -2,14 +2,14 @@
 #![tactic(auto)]
 
 mod argument; // argument.rt: the numbers of the arguments
+mod error; // error.rt: why there is no stream
 mod input; // input.rt: standard input into a buffer
-mod tell; // tell.rt: lines to standard error
 
-use answers::Answer;
-use argument::Request;
+use argument::{Request, read_arguments};
 use compiler::compile;
-use input::Input;
-use layout::FrameRange;
+use error::BuildError;
+use input::read_input;
+use std::env::Env;
 use std::io;
 use std::io::Read;
 
@@ -22,68 +22,39 @@ const STREAM: usize = 3400000;
 // One byte more, by which a longer input shows.
 const ROOM: usize = LAYOUT + 1;
 
-fn write_stream(rt: &(impl Print + Eprint), stream: &[u8]) -> io::Result<()> {
-    if rt.write_all(stream).is_err() {
-        return tell::text(rt, "build: the stream could not be written\n");
-    }
-    Ok(())
-}
-
-// Compiles a layout into an output and writes its stream, or tells why there is none.
-fn compile_into(
-    rt: &(impl Print + Eprint),
-    device: u32,
-    range: FrameRange,
+// Compiles a layout into an output and writes the stream.
+fn write_stream(
+    rt: &impl Print,
+    request: Request,
     layout: &[u8],
     output: &mut [u8],
-) -> io::Result<()> {
-    let answer = compile(device, range, layout, output);
-    let Answer::Done(length) = answer else {
-        return tell::refusal(rt, answer);
-    };
-    write_stream(rt, &output[..length as usize])
+) -> Result<(), BuildError> {
+    let length = compile(request.device, request.range, layout, output)?;
+    rt.write_all(&output[..length as usize])
+        .map_err(|_| BuildError::Output)
 }
 
-fn compile_layout(
-    rt: &(impl Print + Eprint),
-    device: u32,
-    range: FrameRange,
-    layout: &[u8],
-) -> io::Result<()> {
+// Lends the output: each of the two buffers is in a function of its own, since a proof over both is too deep for the checker.
+fn compile_layout(rt: &impl Print, request: Request, layout: &[u8]) -> Result<(), BuildError> {
     let mut output = [0u8; STREAM];
-    compile_into(rt, device, range, layout, &mut output)
+    write_stream(rt, request, layout, &mut output)
 }
 
-// Reads the layout into a buffer, then compiles it.
-#[tactic(auto, unfolding(crate::specs::Inner::Input::Within))]
+// Reads the layout into a buffer, compiles it and writes the stream.
 fn build(
-    rt: &(impl Print + Eprint),
+    rt: &(impl Env + Print),
     stdin: &mut impl Read,
-    device: u32,
-    range: FrameRange,
     buffer: &mut [u8],
-) -> io::Result<()> {
-    let input = input::read_input(stdin, buffer);
-    match input {
-        Input::Whole(n) => compile_layout(rt, device, range, &buffer[..n]),
-        Input::Full => tell::long_input(rt),
-        Input::Failed => tell::text(rt, "build: standard input could not be read\n"),
-    }
+) -> Result<(), BuildError> {
+    let request = read_arguments(rt)?;
+    let n = read_input(stdin, buffer)?;
+    compile_layout(rt, request, &buffer[..n])
 }
 
 fn main(rt: HostRuntime) -> io::Result<()> {
-    let request = argument::read_arguments(&rt);
-    match request {
-        Request::Compile { device, range } => {
-            let mut buffer = [0u8; ROOM];
-            build(&rt, &mut rt.stdin(), device, range, &mut buffer)
-        }
-        Request::WrongCount => {
-            tell::text(
-                &rt,
-                "build: three arguments are wanted, DEVICE FIRST COUNT\n",
-            )
-        }
-        Request::Malformed(i) => tell::argument(&rt, i),
+    let mut buffer = [0u8; ROOM];
+    if let Err(error) = build(&rt, &mut rt.stdin(), &mut buffer) {
+        return eprintln!(rt; "build: {error}");
     }
+    Ok(())
 }

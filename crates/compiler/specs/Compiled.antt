@@ -1,13 +1,13 @@
 -- A layout compiled into an output: the check's refusals, then 36, then the stream.
 -- Sources: 01, "Layouts": "Checks: 21, 37, then the layout from front to back, then 36"; "36 tells the length needed"; "No refusal
 -- touches the output; success answers 0 and the stream's length and touches only its bytes"; "The stream that is written".
-use Rattle.std.specs.Prelude.{ℕ, List, [], ◌++◌, cond, ltb, length, drop}
+use Rattle.std.specs.Prelude.{ℕ, List, [], ◌++◌, cond, ltb, length, drop, Ok, Err}
 use Rattle.answers.specs.declared.Refusal.TheVariants as Refusal
-use Rattle.answers.specs.declared.Answer.{Answer}
 use Rattle.layout.specs.Step.{Step, Reading}
 use Rattle.layout.specs.Layout.{desk_layout, check}
 use Rattle.layout.specs.declared.FrameRange.{FrameRange}
 use Rattle.stream.specs.Stream.{stream}
+use Rattle.answers.specs.AnswerNumbers.{refused, Answer}
 
 -- "A refused layout has no stream"
 unfoldable pub stream_of : ℕ → Reading (List Step) → List ℕ
@@ -31,9 +31,9 @@ overwritten bytes out = bytes ++ drop (length bytes) out
 
 -- what a check's answer leads to
 unfoldable pub compiled_after : Answer → ℕ → FrameRange → List ℕ → List ℕ → Compiled
-compiled_after (Answer.Done n) d r b out =
-    cond (ltb (length out) n) (compiles (Answer.Refused Refusal.ShortOutput n) out) (compiles (Answer.Done n) (overwritten (stream_for d r b) out))
-compiled_after (Answer.Refused c told) d r b out = compiles (Answer.Refused c told) out
+compiled_after (Ok n) d r b out =
+    cond (ltb (length out) n) (compiles (Err (refused Refusal.ShortOutput n)) out) (compiles (Ok n) (overwritten (stream_for d r b) out))
+compiled_after (Err e) d r b out = compiles (Err e) out
 
 abbrev pub compiled : ℕ → FrameRange → List ℕ → List ℕ → Compiled
 compiled d r b out = compiled_after (check d r b) d r b out

@@ -1,5 +1,4 @@
-pub mod Emitted  -- packets written into an output from an offset on
+pub mod FrameDataWords  -- the words of frame data, and the next of them
+pub mod PacketWriting  -- words and packets that a writer wrote: the writer after them
 pub mod StepPackets  -- the packets of a list of steps one by one
 pub mod WholeStream  -- a whole stream written into an output
-pub mod FrameDataWords  -- words of frame data, written and fed one after the other
-pub mod PacketWriting  -- packets written from a cursor on: the output and the cursor after them

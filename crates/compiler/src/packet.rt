@@ -1,126 +1,117 @@
-// Words and packets into the output, with the CRC that runs along.
-ghost use Rattle.std.specs.Prelude.{◌≡◌, [], ◌∷◌, ◌+◌, ◌≤◌, length};
+// The writer of a stream: words and packets into the output, with the CRC that runs along.
+ghost use Rattle.std.specs.Prelude.{◌≡◌, [], ◌∷◌, ◌+◌, ◌≤◌, ◌<◌, length};
 ghost use Rattle.crc16.specs.CrcRegister.{feed};
-ghost use Rattle.crc16.specs.NibbleTable.{entries};
-ghost use Rattle.stream.specs.StreamPackets.{Packet};
-ghost use Rattle.stream.specs.Laws.PacketsJoined.{crc_after};
-ghost use Rattle.words.specs.WordsInBytes.{put_words};
-ghost use Rattle.compiler.specs.Inner.Emitted.{emitted};
+ghost use Rattle.registers.specs.RegisterAddresses.{address_of};
+ghost use Rattle.stream.specs.StreamPackets.{Packet, header1};
+ghost use Rattle.compiler.specs.Inner.PacketWriting.{Put, Room, Written};
 
-use crc16::CrcTable;
+use crc16::check_word;
 use registers::command::RCRC;
 use registers::{Register, address_of};
 
-// Where the next word goes, and the CRC so far.
-#[derive(Clone, Copy)]
-pub struct Cursor {
-    pub at: usize,
-    pub crc: u32,
+// A write header of type 1, for register 0 and no word: type 1 in bits 31..29, operation 2 in 28..27.
+const WRITE: u32 = 0x30000000;
+
+// A header's register stands from bit 13 on.
+const REGISTER: u32 = 0x2000;
+
+// The output, where its next word goes, and the CRC so far. The methods are inlined by force, since only so are place and
+// CRC kept in registers: without, the compiler ran a quarter slower.
+#[derive(Drop)]
+pub(crate) struct Writer<'a> {
+    output: &'a mut [u8],
+    at: usize,
+    pub(crate) crc: u32,
 }
 
-// Writes a word that has room, high byte first. One that tests for room was slower (docs/DECISIONS.md, "Words in bytes").
-pub(crate) fn put_word(output: &mut [u8], at: usize, word: u32)
-    requires { at + 4 ≤ length output.old }
-    ensures { output.new ≡ put_words output.old at (word ∷ []) }
+// The header of a write of n words to a register.
+#[tactic(auto, using(registers::specs::Laws::AddressLookup::address_bound))]
+pub(crate) fn header(register: Register, n: u32) -> u32
+    requires { n < 8192 }
+    ensures { result ≡ header1 register n }
 {
-    output[at] = (word / 16777216) as u8;
-    output[at + 1] = (word / 65536 % 256) as u8;
-    output[at + 2] = (word / 256 % 256) as u8;
-    output[at + 3] = (word % 256) as u8;
+    WRITE + address_of(register) * REGISTER + n
 }
 
-// Writes a word and feeds it for the register at an address.
-pub(crate) fn put_fed(
-    table: &CrcTable,
-    output: &mut [u8],
-    cursor: Cursor,
-    address: u32,
-    word: u32,
-) -> Cursor
-    requires { (table.now ≡ entries 256 0) × (cursor.at + 4 ≤ length output.old) }
-    ensures at_value { result.at ≡ cursor.at + 4 }
-    ensures crc_value { result.crc ≡ feed cursor.crc address word }
-    ensures output_after { output.new ≡ put_words output.old cursor.at (word ∷ []) }
-{
-    put_word(output, cursor.at, word);
-    Cursor {
-        at: cursor.at + 4,
-        crc: crc16::feed_with(table, cursor.crc, address, word),
-    }
-}
-
-// Writes a word to a register.
-pub(crate) fn put_write(
-    table: &CrcTable,
-    output: &mut [u8],
-    cursor: Cursor,
-    register: Register,
-    word: u32,
-) -> Cursor
-    requires { (table.now ≡ entries 256 0) × (cursor.at + 8 ≤ length output.old) }
-    ensures at_value { result.at ≡ cursor.at + 8 }
-    ensures crc_value { result.crc ≡ crc_after cursor.crc (Packet.Write register word ∷ []) }
-    ensures output_after { output.new ≡ emitted output.old cursor.at cursor.crc (Packet.Write register word ∷ []) }
-{
-    let address = address_of(register);
-    put_word(output, cursor.at, 0x30000001 + address * 8192);
-    let after = Cursor {
-        at: cursor.at + 4,
-        crc: cursor.crc,
-    };
-    put_fed(table, output, after, address, word)
-}
-
-// Writes a command. RCRC makes the CRC zero.
-#[tactic(auto, unfolding(stream::specs::StreamPackets::crc_of, stream::specs::StreamPackets::packet_words, stream::specs::StreamPackets::packets_words, stream::specs::Laws::PacketsJoined::crc_after,))]
-pub(crate) fn put_command(
-    table: &CrcTable,
-    output: &mut [u8],
-    cursor: Cursor,
-    command: u32,
-) -> Cursor
-    requires { (table.now ≡ entries 256 0) × (cursor.at + 8 ≤ length output.old) }
-    ensures at_value { result.at ≡ cursor.at + 8 }
-    ensures crc_value { result.crc ≡ crc_after cursor.crc (Packet.Command command ∷ []) }
-    ensures output_after { output.new ≡ emitted output.old cursor.at cursor.crc (Packet.Command command ∷ []) }
-{
-    let after = put_write(table, output, cursor, Register::Cmd, command);
-    if command == RCRC {
-        return Cursor {
-            at: after.at,
+#[tactic(auto, unfolding(stream::specs::Laws::StreamLength::size, stream::specs::Laws::StreamLength::sizes,))]
+impl<'a> Writer<'a> {
+    // A writer at the start of an output.
+    pub(crate) fn new(output: &'a mut [u8]) -> Writer<'a>
+        ensures same_output { result.output.ghost_name ≡ output.entry.ghost_name }
+        ensures output { result.output.now ≡ output.old }
+        ensures place { result.at ≡ 0 }
+        ensures crc { result.crc ≡ 0 }
+    {
+        Writer {
+            output,
+            at: 0,
             crc: 0,
-        };
+        }
     }
-    after
-}
 
-// Writes the word that passes the check to CRC.
-pub(crate) fn put_check(output: &mut [u8], cursor: Cursor) -> Cursor
-    requires { cursor.at + 8 ≤ length output.old }
-    ensures at_value { result.at ≡ cursor.at + 8 }
-    ensures crc_value { result.crc ≡ crc_after cursor.crc (Packet.Check ∷ []) }
-    ensures output_after { output.new ≡ emitted output.old cursor.at cursor.crc (Packet.Check ∷ []) }
-{
-    put_word(output, cursor.at, 0x30000001);
-    put_word(output, cursor.at + 4, crc16::check_word(cursor.crc));
-    Cursor {
-        at: cursor.at + 8,
-        crc: 0,
+    // Writes a word that has room, high byte first. One that tests for room was slower (docs/DECISIONS.md, "Words in bytes").
+    #[tactic(auto, unfolding(words::specs::WordsInBytes::bytes_of), using(words::proofs::Laws::WordStores::put_copied))]
+    #[inline(always)]
+    pub(crate) fn word(&mut self, word: u32)
+        requires { self.old.at + 4 ≤ length self.old.output.now }
+        ensures { Put self.old (word ∷ []) self.old.crc self.new }
+    {
+        self.output[self.at..self.at + 4].copy_from_slice(&word.to_be_bytes());
+        self.at += 4;
     }
-}
 
-// Writes two zero words to MFWR.
-pub(crate) fn put_multi(table: &CrcTable, output: &mut [u8], cursor: Cursor) -> Cursor
-    requires { (table.now ≡ entries 256 0) × (cursor.at + 12 ≤ length output.old) }
-    ensures at_value { result.at ≡ cursor.at + 12 }
-    ensures crc_value { result.crc ≡ crc_after cursor.crc (Packet.MultiFrame ∷ []) }
-    ensures output_after { output.new ≡ emitted output.old cursor.at cursor.crc (Packet.MultiFrame ∷ []) }
-{
-    put_word(output, cursor.at, 0x30014002);
-    let after = Cursor {
-        at: cursor.at + 4,
-        crc: cursor.crc,
-    };
-    let first = put_fed(table, output, after, 10, 0);
-    put_fed(table, output, first, 10, 0)
+    // Writes a word and feeds it for a register.
+    #[inline(always)]
+    pub(crate) fn fed(&mut self, register: Register, word: u32)
+        requires { self.old.at + 4 ≤ length self.old.output.now }
+        ensures { Put self.old (word ∷ []) (feed self.old.crc (address_of register) word) self.new }
+    {
+        self.word(word);
+        self.crc = crc16::feed(self.crc, address_of(register), word);
+    }
+
+    // Writes a word to a register.
+    #[inline(always)]
+    pub(crate) fn write(&mut self, register: Register, word: u32)
+        requires { Room self.old (Packet.Write register word ∷ []) }
+        ensures { Written self.old (Packet.Write register word ∷ []) self.new }
+    {
+        self.word(header(register, 1));
+        self.fed(register, word);
+    }
+
+    // Writes a command. RCRC makes the CRC zero.
+    #[tactic(auto, unfolding(stream::specs::Laws::StreamLength::size, stream::specs::Laws::StreamLength::sizes, stream::specs::StreamPackets::crc_of, stream::specs::StreamPackets::packet_words, stream::specs::StreamPackets::packets_words, stream::specs::Laws::PacketsJoined::crc_after,))]
+    #[inline(always)]
+    pub(crate) fn command(&mut self, command: u32)
+        requires { Room self.old (Packet.Command command ∷ []) }
+        ensures { Written self.old (Packet.Command command ∷ []) self.new }
+    {
+        self.write(Register::Cmd, command);
+        if command == RCRC {
+            self.crc = 0;
+        }
+    }
+
+    // Writes the word that passes the check to CRC.
+    #[inline(always)]
+    pub(crate) fn check(&mut self)
+        requires { Room self.old (Packet.Check ∷ []) }
+        ensures { Written self.old (Packet.Check ∷ []) self.new }
+    {
+        self.word(header(Register::Crc, 1));
+        self.word(check_word(self.crc));
+        self.crc = 0;
+    }
+
+    // Writes two zero words to MFWR.
+    #[inline(always)]
+    pub(crate) fn multi(&mut self)
+        requires { Room self.old (Packet.MultiFrame ∷ []) }
+        ensures { Written self.old (Packet.MultiFrame ∷ []) self.new }
+    {
+        self.word(header(Register::Mfwr, 2));
+        self.fed(Register::Mfwr, 0);
+        self.fed(Register::Mfwr, 0);
+    }
 }

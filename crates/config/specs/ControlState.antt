@@ -1,11 +1,10 @@
 -- The control state with one part of it replaced, and what a word can leave: the next phase and state with an event, or a stop.
 -- Source: 01, "Words and packets", first paragraph, and "Stops and refusals".
-use Rattle.std.specs.Prelude.{true, cond}
+use Rattle.std.specs.Prelude.{true, cond, Option, ℕ}
 use Rattle.registers.specs.RegisterAddresses.{same}
 use Rattle.registers.specs.declared.Register.{Register}
 use Rattle.config.specs.declared.Registers.{Registers}
 use Rattle.config.specs.declared.Flags.{Flags}
-use Rattle.config.specs.declared.Current.{Current}
 use Rattle.config.specs.declared.PartialWord.{PartialWord}
 use Rattle.config.specs.declared.Control.{Control}
 use Rattle.config.specs.declared.Phase.{Phase}
@@ -19,7 +18,7 @@ with_registers r c = record { device = c.device; registers = r; flags = c.flags;
 abbrev pub with_flags : Flags → Control → Control
 with_flags f c = record { device = c.device; registers = c.registers; flags = f; current = c.current; partial = c.partial }
 
-abbrev pub with_current : Current → Control → Control
+abbrev pub with_current : Option ℕ → Control → Control
 with_current n c = record { device = c.device; registers = c.registers; flags = c.flags; current = n; partial = c.partial }
 
 abbrev pub with_partial : PartialWord → Control → Control

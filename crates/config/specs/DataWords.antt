@@ -1,6 +1,6 @@
 -- A data word to each register, and a word in each phase.
 -- Sources: 001, "Spartan-3 Device Configuration Registers"; 01, "Words and packets", and stops 4, 5, 8, 9 and 10.
-use Rattle.std.specs.Prelude.{ℕ, ◌+◌, ◌-◌, cond, eqb, leb, ltb}
+use Rattle.std.specs.Prelude.{ℕ, ◌+◌, ◌-◌, cond, eqb, leb, ltb, Option, Some, None}
 use Rattle.crc16.specs.CrcRegister.{feed}
 use Rattle.parts.specs.Table.{idcode_at, length_at, count_at}
 use Rattle.config.specs.CurrentFrame.{named}
@@ -11,8 +11,6 @@ use Rattle.config.specs.ControlState.{with_registers, with_flags, with_current, 
 use Rattle.config.specs.PacketHeaders.{header_word}
 use Rattle.config.specs.Commands.{acted}
 use Rattle.registers.specs.declared.Register.{Register}
-use Rattle.config.specs.declared.Open.TheVariants as Open
-use Rattle.config.specs.declared.Current.{Current}
 use Rattle.config.specs.declared.Control.{Control}
 use Rattle.config.specs.declared.Phase.{Phase}
 use Rattle.answers.specs.declared.Stop.TheVariants as Stop
@@ -24,7 +22,7 @@ use Rattle.config.specs.declared.Transition.{Transition}
 -- the phase after a packet's last word; 01, "FDRI": "The word after the data of a nonzero count is the auto CRC word"; after any
 -- other packet comes a header
 unfoldable pub ended : Register → Phase
-ended r = cond (is_fdri r) Phase.Crc (Phase.Header Open.Closed)
+ended r = cond (is_fdri r) Phase.Crc (Phase.Header None)
 
 -- the phase after one of the words left
 unfoldable pub onward : Register → ℕ → ℕ → Phase
@@ -57,14 +55,14 @@ cmd_word p c w = cond (ltb last_command w) (stopped Stop.UnknownCommand c) (acte
 -- ---- frames
 
 -- 01, "FDRI": the current frame "steps on by one (after F-1: none)"
-unfoldable pub stepped : ℕ → ℕ → Current
-stepped d n = cond (ltb (n + 1) (count_at d)) (Current.Frame (n + 1)) Current.NoFrame
+unfoldable pub stepped : ℕ → ℕ → Option ℕ
+stepped d n = cond (ltb (n + 1) (count_at d)) (Some (n + 1)) None
 
 -- a frame that is not the packet's last is stored as its last word arrives; stop 9: "a frame to store, current frame none"
-unfoldable pub frame_stored : Current → ℕ → ℕ → Control → ℕ → Transition
-frame_stored (Current.Frame n) left filled c w =
+unfoldable pub frame_stored : Option ℕ → ℕ → ℕ → Control → ℕ → Transition
+frame_stored (Some n) left filled c w =
     transition (Phase.Data Register.Fdri (left - 1) 0) (with_current (stepped c.device n) (put Register.Fdri w c)) (Event.KeepAndStore filled w n)
-frame_stored Current.NoFrame left filled c w = stopped Stop.NoCurrentFrame c
+frame_stored None left filled c w = stopped Stop.NoCurrentFrame c
 
 -- 01: "Each frame but the packet's last is stored as its last word arrives ... The last is not stored; from its last word until
 -- power-on a frame is in hand."
@@ -76,9 +74,9 @@ fdri_word left filled c w =
     (frame_stored c.current left filled c w))
 
 -- 01, "MFWR": "at the second word the frame in hand is stored at the current frame, which doesn't move"
-unfoldable pub mfwr_stored : Current → Control → ℕ → Transition
-mfwr_stored (Current.Frame n) c w = transition (ended Register.Mfwr) (put Register.Mfwr w c) (Event.Store n)
-mfwr_stored Current.NoFrame c w = stopped Stop.NoCurrentFrame c
+unfoldable pub mfwr_stored : Option ℕ → Control → ℕ → Transition
+mfwr_stored (Some n) c w = transition (ended Register.Mfwr) (put Register.Mfwr w c) (Event.Store n)
+mfwr_stored None c w = stopped Stop.NoCurrentFrame c
 
 unfoldable pub mfwr_word : ℕ → ℕ → Control → ℕ → Transition
 mfwr_word left filled c w =
@@ -121,5 +119,5 @@ unfoldable pub word : Phase → Control → ℕ → Transition
 word (Phase.Hunting b) c w = transition (Phase.Hunting b) c Event.Nothing
 word (Phase.Header o) c w = header_word o c w
 word (Phase.Data r left filled) c w = data_word r left filled c w
-word Phase.Crc c w = crc_word (Phase.Header Open.Closed) c w
+word Phase.Crc c w = crc_word (Phase.Header None) c w
 word (Phase.Stopped s) c w = transition (Phase.Stopped s) c Event.Nothing

@@ -1,13 +1,11 @@
 -- Packet headers: their fields, the kinds that are allowed, and what each does.
 -- Sources: 001, "Packets", Figures 6 and 7; 01, "Words and packets", second paragraph, and stops 1, 2, 3, 6 and 7.
-use Rattle.std.specs.Prelude.{ℕ, ◌/◌, ◌%◌, ◌^◌, Bool, true, cond, ◌&&◌, eqb}
+use Rattle.std.specs.Prelude.{ℕ, ◌/◌, ◌%◌, ◌^◌, Bool, true, cond, ◌&&◌, eqb, Option, Some, None}
 use Rattle.parts.specs.Table.{length_at}
 use Rattle.registers.specs.RegisterAddresses.{is_fdri, is_mfwr, register_at}
 use Rattle.registers.specs.CommandCodes.{WCFG, MFWR}
 use Rattle.config.specs.ControlState.{transition, stopped}
 use Rattle.registers.specs.declared.Register.{Register}
-use Rattle.registers.specs.declared.RegisterAnswer.{RegisterAnswer}
-use Rattle.config.specs.declared.Open.{Open}
 use Rattle.config.specs.declared.PacketHeader.{PacketHeader}
 use Rattle.config.specs.declared.Control.{Control}
 use Rattle.config.specs.declared.Phase.TheVariants as Phase
@@ -39,12 +37,12 @@ type1 w =
     (cond (eqb (operation w) 2) (PacketHeader.Write (register_field w) (count1 w)) PacketHeader.Bad))
 
 -- 01: type 2 "is allowed only as the next word after a type 1 write header of count 0, whose register it uses"
-unfoldable pub type2 : Open → ℕ → PacketHeader
-type2 Open.Closed w = PacketHeader.Bad
-type2 (Open.After r) w = cond (eqb (operation w) 1) PacketHeader.Read (cond (eqb (operation w) 2) (PacketHeader.LongWrite r (count2 w)) PacketHeader.Bad)
+unfoldable pub type2 : Option Register → ℕ → PacketHeader
+type2 None w = PacketHeader.Bad
+type2 (Some r) w = cond (eqb (operation w) 1) PacketHeader.Read (cond (eqb (operation w) 2) (PacketHeader.LongWrite r (count2 w)) PacketHeader.Bad)
 
 -- 01: "The word 00000000 as a header is padding"
-unfoldable pub packet : Open → ℕ → PacketHeader
+unfoldable pub packet : Option Register → ℕ → PacketHeader
 packet o w = cond (eqb w 0) PacketHeader.Idle (cond (eqb (type_of w) 1) (type1 w) (cond (eqb (type_of w) 2) (type2 o w) PacketHeader.Bad))
 
 -- 01, stop 6: "before IDCODE and FLR were accepted, or CMD not WCFG (FDRI), not MFWR (MFWR), or MFWR with no frame in hand"
@@ -65,18 +63,18 @@ begin r n c =
     (stopped Stop.NotReady c)
 
 -- 01: "A write of count 0 is checked only for its register": a type 1 write of count 0 lets a type 2 header follow
-unfoldable pub type_one_write : RegisterAnswer → ℕ → Control → Transition
-type_one_write RegisterAnswer.NotWritable n c = stopped Stop.BadRegister c
-type_one_write (RegisterAnswer.Writable r) n c = cond (eqb n 0) (transition (Phase.Header (Open.After r)) c Event.Nothing) (begin r n c)
+unfoldable pub type_one_write : Option Register → ℕ → Control → Transition
+type_one_write None n c = stopped Stop.BadRegister c
+type_one_write (Some r) n c = cond (eqb n 0) (transition (Phase.Header (Some r)) c Event.Nothing) (begin r n c)
 
 -- 01: "Header checks go 1, 3, 2, 6, 7"
 unfoldable pub obeyed : PacketHeader → Control → Transition
-obeyed PacketHeader.Idle c = transition (Phase.Header Open.Closed) c Event.Nothing
+obeyed PacketHeader.Idle c = transition (Phase.Header None) c Event.Nothing
 obeyed PacketHeader.Bad c = stopped Stop.BadHeader c
 obeyed PacketHeader.Read c = stopped Stop.ReadOperation c
 obeyed (PacketHeader.Write a n) c = type_one_write (register_at a) n c
-obeyed (PacketHeader.LongWrite r n) c = cond (eqb n 0) (transition (Phase.Header Open.Closed) c Event.Nothing) (begin r n c)
+obeyed (PacketHeader.LongWrite r n) c = cond (eqb n 0) (transition (Phase.Header None) c Event.Nothing) (begin r n c)
 
 -- a header word
-abbrev pub header_word : Open → Control → ℕ → Transition
+abbrev pub header_word : Option Register → Control → ℕ → Transition
 header_word o c w = obeyed (packet o w) c

@@ -1,10 +1,9 @@
 -- Bytes: the hunt for the sync word, and words from four bytes, high byte first.
 -- Sources: 001, "Command Words"; 01, "Words and packets", second paragraph.
-use Rattle.std.specs.Prelude.{ℕ, Bool, cond, ◌&&◌, eqb}
+use Rattle.std.specs.Prelude.{ℕ, Bool, cond, ◌&&◌, eqb, None}
 use Rattle.words.specs.WordsInBytes.{word_of}
 use Rattle.config.specs.ControlState.{with_partial, transition}
 use Rattle.config.specs.DataWords.{word}
-use Rattle.config.specs.declared.Open.TheVariants as Open
 use Rattle.config.specs.declared.PartialWord.{PartialWord}
 use Rattle.config.specs.declared.Control.{Control}
 use Rattle.config.specs.declared.Phase.{Phase}
@@ -19,7 +18,7 @@ unfoldable pub hunted : PartialWord → ℕ → Phase
 hunted PartialWord.Zero x = Phase.Hunting (PartialWord.One x)
 hunted (PartialWord.One a) x = Phase.Hunting (PartialWord.Two a x)
 hunted (PartialWord.Two a b) x = Phase.Hunting (PartialWord.Three a b x)
-hunted (PartialWord.Three a b c) x = cond (is_sync a b c x) (Phase.Header Open.Closed) (Phase.Hunting (PartialWord.Three b c x))
+hunted (PartialWord.Three a b c) x = cond (is_sync a b c x) (Phase.Header None) (Phase.Hunting (PartialWord.Three b c x))
 
 -- 01: "Then bytes are taken in fours, high byte first"
 unfoldable pub gathered : PartialWord → Phase → Control → ℕ → Transition

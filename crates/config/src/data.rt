@@ -1,124 +1,97 @@
 // A data word to each register.
 ghost use Rattle.std.specs.Prelude.{◌≡◌, ◌<◌};
 ghost use Rattle.config.specs.CurrentFrame.{named};
-ghost use Rattle.config.specs.ControlState.{with_registers, with_flags, with_current};
-ghost use Rattle.config.specs.DataWords.{ended, onward, put, crc_word, far_word, cmd_word, stepped};
-ghost use Rattle.config.specs.DataWords.{frame_stored, fdri_word, mfwr_stored, mfwr_word, idcode_word, flr_word, data_word};
+ghost use Rattle.config.specs.DataWords.{ended, onward, put, crc_word, far_word, cmd_word, stepped, frame_stored};
+ghost use Rattle.config.specs.DataWords.{fdri_word, mfwr_word, idcode_word, flr_word, data_word};
 
 use crate::command::act;
 use crate::header::{going, stopped};
 use crate::writes::write;
-use crate::{Control, Current, Event, Flags, Open, Phase, Registers, Transition};
+use crate::{Control, Event, Flags, Phase, Registers, Transition};
 use answers::Stop;
-use parts::frame::NumberAnswer;
+use parts::frame::frame_number;
 use parts::table::{count_at, idcode_at, length_at};
 use registers::{Register, command, is_fdri};
 
-fn with_registers(registers: Registers, control: Control) -> Control
-    ensures { result ≡ with_registers registers control }
-{
-    let flags = control.flags;
-    let current = control.current;
-    let partial = control.partial;
-    Control {
-        device: control.device,
-        registers: registers,
-        flags: flags,
-        current: current,
-        partial: partial,
-    }
-}
-
-fn with_flags(flags: Flags, control: Control) -> Control
-    ensures { result ≡ with_flags flags control }
-{
-    let registers = control.registers;
-    let current = control.current;
-    let partial = control.partial;
-    Control {
-        device: control.device,
-        registers: registers,
-        flags: flags,
-        current: current,
-        partial: partial,
-    }
-}
-
-fn with_current(current: Current, control: Control) -> Control
-    ensures { result ≡ with_current current control }
-{
-    let registers = control.registers;
-    let flags = control.flags;
-    let partial = control.partial;
-    Control {
-        device: control.device,
-        registers: registers,
-        flags: flags,
-        current: current,
-        partial: partial,
-    }
-}
-
 // The phase after a packet's last word.
+#[tactic(auto, unfolding(crate::specs::DataWords::ended))]
 fn ended(register: Register) -> Phase
     ensures { result ≡ ended register }
 {
     if is_fdri(register) {
-        return Phase::Crc;
+        Phase::Crc
+    } else {
+        Phase::Header(None)
     }
-    Phase::Header(Open::Closed)
 }
 
 // The phase after one of the words left.
+#[tactic(auto, unfolding(crate::specs::DataWords::onward))]
 fn onward(register: Register, left: u32, filled: u32) -> Phase
     ensures { result ≡ onward register left filled }
 {
-    if 1 < left {
-        return Phase::Data {
-            register: register,
-            left: left - 1,
-            filled: filled,
-        };
+    if left <= 1 {
+        return ended(register);
     }
-    ended(register)
+    Phase::Data {
+        register,
+        left: left - 1,
+        filled,
+    }
 }
 
 // The word is written to its register.
 fn put(register: Register, word: u32, control: Control) -> Control
     ensures { result ≡ put register word control }
 {
-    let registers = control.registers;
-    with_registers(write(register, word, registers), control)
+    Control {
+        registers: write(register, word, control.registers),
+        ..control
+    }
 }
 
 // A word to CRC; the auto CRC word too.
-#[tactic(auto, unfolding(crate::specs::DataWords::checked, crate::specs::ControlState::raised, registers::specs::RegisterAddresses::address_of,))]
+#[tactic(auto, unfolding(crate::specs::DataWords::checked, crate::specs::ControlState::raised, registers::specs::RegisterAddresses::address_of))]
 pub(crate) fn crc_word(phase: Phase, control: Control, word: u32) -> Transition
     ensures { result ≡ crc_word phase control word }
 {
-    let mut registers = control.registers;
-    registers.crc = crc16::feed(registers.crc, 0, word);
-    let after = with_registers(registers, control);
-    if registers.crc != 0 {
-        return stopped(Stop::CrcMismatch, after);
+    let crc = crc16::feed(control.registers.crc, 0, word);
+    let registers = Registers {
+        crc,
+        ..control.registers
+    };
+    if crc != 0 {
+        return stopped(
+            Stop::CrcMismatch,
+            Control {
+                registers,
+                ..control
+            },
+        );
     }
-    let mut flags = control.flags;
-    flags.check_passed = true;
-    going(phase, with_flags(flags, after))
+    let flags = Flags {
+        check_passed: true,
+        ..control.flags
+    };
+    going(
+        phase,
+        Control {
+            registers,
+            flags,
+            ..control
+        },
+    )
 }
 
 // The frame that an address names.
-fn named(device: u32, address: u32) -> Current
+#[tactic(auto, unfolding(crate::specs::CurrentFrame::current_from))]
+fn named(device: u32, address: u32) -> Option<u32>
     ensures { result ≡ named device address }
 {
-    let answer = parts::frame::frame_number(device, address);
-    match answer {
-        NumberAnswer::Number(n) => Current::Frame(n),
-        NumberAnswer::NoFrame => Current::NoFrame,
-        NumberAnswer::Refused(_) => Current::NoFrame,
-    }
+    frame_number(device, address).unwrap_or(None)
 }
 
+#[tactic(auto, unfolding(crate::specs::DataWords::far_word))]
 fn far_word(phase: Phase, control: Control, word: u32) -> Transition
     ensures { result ≡ far_word phase control word }
 {
@@ -126,10 +99,14 @@ fn far_word(phase: Phase, control: Control, word: u32) -> Transition
     act(
         control.registers.cmd,
         phase,
-        with_current(current, put(Register::Far, word, control)),
+        Control {
+            current,
+            ..put(Register::Far, word, control)
+        },
     )
 }
 
+#[tactic(auto, unfolding(crate::specs::DataWords::cmd_word))]
 fn cmd_word(phase: Phase, control: Control, word: u32) -> Transition
     ensures { result ≡ cmd_word phase control word }
 {
@@ -140,59 +117,60 @@ fn cmd_word(phase: Phase, control: Control, word: u32) -> Transition
 }
 
 // The frame after a frame that was stored.
-fn stepped(device: u32, frame: u32) -> Current
+#[tactic(auto, unfolding(crate::specs::DataWords::stepped))]
+fn stepped(device: u32, frame: u32) -> Option<u32>
     ensures { result ≡ stepped device frame }
 {
     let count = count_at(device);
-    if (frame as u64) + 1 < count as u64 {
-        return Current::Frame(frame + 1);
-    }
-    Current::NoFrame
+    frame.checked_add(1).filter(|&next| next < count)
 }
 
 // The word that completes a frame which is not the packet's last.
-fn frame_stored(current: Current, left: u32, filled: u32, control: Control, word: u32) -> Transition
+#[tactic(auto, unfolding(crate::specs::DataWords::frame_stored))]
+fn frame_stored(left: u32, filled: u32, control: Control, word: u32) -> Transition
     requires { 1 < left }
-    ensures { result ≡ frame_stored current left filled control word }
+    ensures { result ≡ frame_stored control.current left filled control word }
 {
-    match current {
-        Current::Frame(n) => Transition {
-            phase: Phase::Data {
-                register: Register::Fdri,
-                left: left - 1,
-                filled: 0,
-            },
-            control: with_current(
-                stepped(control.device, n),
-                put(Register::Fdri, word, control),
-            ),
-            event: Event::KeepAndStore {
-                at: filled,
-                word: word,
-                frame: n,
-            },
+    let Some(frame) = control.current else {
+        return stopped(Stop::NoCurrentFrame, control);
+    };
+    Transition {
+        phase: Phase::Data {
+            register: Register::Fdri,
+            left: left - 1,
+            filled: 0,
         },
-        Current::NoFrame => stopped(Stop::NoCurrentFrame, control),
+        control: Control {
+            current: stepped(control.device, frame),
+            ..put(Register::Fdri, word, control)
+        },
+        event: Event::KeepAndStore {
+            at: filled,
+            word,
+            frame,
+        },
     }
 }
 
+#[tactic(auto, unfolding(crate::specs::DataWords::fdri_word, crate::specs::ControlState::raised, registers::specs::RegisterAddresses::address_of))]
 fn fdri_word(left: u32, filled: u32, control: Control, word: u32) -> Transition
     ensures { result ≡ fdri_word left filled control word }
 {
     if left <= 1 {
-        let mut flags = control.flags;
-        flags.buffer_valid = true;
+        let flags = Flags {
+            buffer_valid: true,
+            ..control.flags
+        };
         return Transition {
             phase: ended(Register::Fdri),
-            control: with_flags(flags, put(Register::Fdri, word, control)),
-            event: Event::Keep {
-                at: filled,
-                word: word,
+            control: Control {
+                flags,
+                ..put(Register::Fdri, word, control)
             },
+            event: Event::Keep { at: filled, word },
         };
     }
-    let length = length_at(control.device);
-    if (filled as u64) + 1 < length as u64 {
+    if (filled as u64) + 1 < length_at(control.device) as u64 {
         return Transition {
             phase: Phase::Data {
                 register: Register::Fdri,
@@ -200,73 +178,78 @@ fn fdri_word(left: u32, filled: u32, control: Control, word: u32) -> Transition
                 filled: filled + 1,
             },
             control: put(Register::Fdri, word, control),
-            event: Event::Keep {
-                at: filled,
-                word: word,
-            },
+            event: Event::Keep { at: filled, word },
         };
     }
-    let current = control.current;
-    frame_stored(current, left, filled, control, word)
+    frame_stored(left, filled, control, word)
 }
 
-// The second word to MFWR.
-fn mfwr_stored(current: Current, control: Control, word: u32) -> Transition
-    ensures { result ≡ mfwr_stored current control word }
-{
-    match current {
-        Current::Frame(n) => Transition {
-            phase: ended(Register::Mfwr),
-            control: put(Register::Mfwr, word, control),
-            event: Event::Store(n),
-        },
-        Current::NoFrame => stopped(Stop::NoCurrentFrame, control),
-    }
-}
-
+// The second word stores the frame in hand.
+#[tactic(auto, unfolding(crate::specs::DataWords::mfwr_word, crate::specs::DataWords::mfwr_stored))]
 fn mfwr_word(left: u32, filled: u32, control: Control, word: u32) -> Transition
     ensures { result ≡ mfwr_word left filled control word }
 {
-    if left <= 1 {
-        let current = control.current;
-        return mfwr_stored(current, control, word);
+    if 1 < left {
+        return going(
+            Phase::Data {
+                register: Register::Mfwr,
+                left: left - 1,
+                filled,
+            },
+            put(Register::Mfwr, word, control),
+        );
     }
-    going(
-        Phase::Data {
-            register: Register::Mfwr,
-            left: left - 1,
-            filled: filled,
-        },
-        put(Register::Mfwr, word, control),
-    )
+    let Some(frame) = control.current else {
+        return stopped(Stop::NoCurrentFrame, control);
+    };
+    Transition {
+        phase: ended(Register::Mfwr),
+        control: put(Register::Mfwr, word, control),
+        event: Event::Store(frame),
+    }
 }
 
+#[tactic(auto, unfolding(crate::specs::DataWords::idcode_word, crate::specs::ControlState::raised, registers::specs::RegisterAddresses::address_of))]
 fn idcode_word(phase: Phase, control: Control, word: u32) -> Transition
     ensures { result ≡ idcode_word phase control word }
 {
     if word != idcode_at(control.device) {
         return stopped(Stop::WrongIdcode, control);
     }
-    let mut flags = control.flags;
-    flags.idcode_ok = true;
+    let flags = Flags {
+        idcode_ok: true,
+        ..control.flags
+    };
     going(
         phase,
-        with_flags(flags, put(Register::Idcode, word, control)),
+        Control {
+            flags,
+            ..put(Register::Idcode, word, control)
+        },
     )
 }
 
+#[tactic(auto, unfolding(crate::specs::DataWords::flr_word, crate::specs::ControlState::raised, registers::specs::RegisterAddresses::address_of))]
 fn flr_word(phase: Phase, control: Control, word: u32) -> Transition
     ensures { result ≡ flr_word phase control word }
 {
-    let length = length_at(control.device);
-    if (word as u64) + 1 != length as u64 {
+    if word.checked_add(1) != Some(length_at(control.device)) {
         return stopped(Stop::WrongFrameLength, control);
     }
-    let mut flags = control.flags;
-    flags.flr_ok = true;
-    going(phase, with_flags(flags, put(Register::Flr, word, control)))
+    let flags = Flags {
+        flr_ok: true,
+        ..control.flags
+    };
+    going(
+        phase,
+        Control {
+            flags,
+            ..put(Register::Flr, word, control)
+        },
+    )
 }
 
+#[tactic(auto, unfolding(crate::specs::DataWords::data_word))]
 pub(crate) fn data_word(
     register: Register,
     left: u32,
@@ -282,10 +265,9 @@ pub(crate) fn data_word(
         Register::Far => far_word(next, control, word),
         Register::Fdri => fdri_word(left, filled, control, word),
         Register::Cmd => cmd_word(next, control, word),
-        Register::Ctl => going(next, put(register, word, control)),
-        Register::Mask => going(next, put(register, word, control)),
-        Register::Lout => going(next, put(register, word, control)),
-        Register::Cor => going(next, put(register, word, control)),
+        Register::Ctl | Register::Mask | Register::Lout | Register::Cor => {
+            going(next, put(register, word, control))
+        }
         Register::Mfwr => mfwr_word(left, filled, control, word),
         Register::Flr => flr_word(next, control, word),
         Register::Idcode => idcode_word(next, control, word),

@@ -1,23 +1,22 @@
 // Header words: parsed, then obeyed. The checks go 1, 3, 2, 6, 7.
 ghost use Rattle.std.specs.Prelude.{◌≡◌};
 ghost use Rattle.config.specs.ControlState.{transition, stopped};
-ghost use Rattle.config.specs.PacketHeaders.{type1, type2, packet, ready, counted, begin, type_one_write, obeyed, header_word};
+ghost use Rattle.config.specs.PacketHeaders.{operation, type1, type2, packet, ready, counted, begin, obeyed, header_word};
 ghost use Rattle.config.specs.declared.Event.TheVariants as Event;
 
-use crate::stream::with_partial;
-use crate::{Control, Event, Open, PacketHeader, PartialWord, Phase, Transition};
+use crate::{Control, Event, PacketHeader, PartialWord, Phase, Transition};
 use answers::Stop;
 use parts::table::length_at;
 use registers::command::{MFWR, WCFG};
-use registers::{Register, RegisterAnswer, is_fdri, is_mfwr, register_at};
+use registers::{Register, register_at};
 
 // The machine with this phase and control state, and no event.
 pub(crate) fn going(phase: Phase, control: Control) -> Transition
     ensures { result ≡ transition phase control Event.Nothing }
 {
     Transition {
-        phase: phase,
-        control: control,
+        phase,
+        control,
         event: Event::Nothing,
     }
 }
@@ -26,160 +25,147 @@ pub(crate) fn going(phase: Phase, control: Control) -> Transition
 pub(crate) fn stopped(stop: Stop, control: Control) -> Transition
     ensures { result ≡ stopped stop control }
 {
-    Transition {
-        phase: Phase::Stopped(stop),
-        control: with_partial(PartialWord::Zero, control),
-        event: Event::Nothing,
-    }
+    going(
+        Phase::Stopped(stop),
+        Control {
+            partial: PartialWord::Zero,
+            ..control
+        },
+    )
 }
 
+// The operations of a header; 3 is not allowed.
+const NO_OPERATION: u32 = 0;
+
+const READ: u32 = 1;
+
+const WRITE: u32 = 2;
+
+// Bits 28..27 of a header.
+fn operation(word: u32) -> u32
+    ensures { result ≡ operation word }
+{
+    word >> 27 & 3
+}
+
+// A type 1 header: the register in bits 26..13, the count in 10..0.
+#[tactic(auto, unfolding(crate::specs::PacketHeaders::type1))]
 fn type1(word: u32) -> PacketHeader
     ensures { result ≡ type1 word }
 {
-    let operation = word / 134217728 % 4;
-    let count = word % 2048;
-    if operation == 0 {
-        if count == 0 {
-            return PacketHeader::Idle;
-        }
-        return PacketHeader::Bad;
+    let count = word & 0x7FF;
+    match operation(word) {
+        NO_OPERATION if count == 0 => PacketHeader::Idle,
+        READ => PacketHeader::Read,
+        WRITE => PacketHeader::Write {
+            address: word >> 13 & 0x3FFF,
+            count,
+        },
+        _ => PacketHeader::Bad,
     }
-    if operation == 1 {
-        return PacketHeader::Read;
-    }
-    if operation == 2 {
-        return PacketHeader::Write {
-            address: word / 8192 % 16384,
-            count: count,
-        };
-    }
-    PacketHeader::Bad
 }
 
-fn type2(opened: Open, word: u32) -> PacketHeader
+// A type 2 header, for the open register: the count in bits 26..0.
+#[tactic(auto, unfolding(crate::specs::PacketHeaders::type2))]
+fn type2(opened: Option<Register>, word: u32) -> PacketHeader
     ensures { result ≡ type2 opened word }
 {
-    match opened {
-        Open::Closed => PacketHeader::Bad,
-        Open::After(register) => {
-            let operation = word / 134217728 % 4;
-            if operation == 1 {
-                return PacketHeader::Read;
-            }
-            if operation == 2 {
-                return PacketHeader::LongWrite {
-                    register: register,
-                    count: word % 134217728,
-                };
-            }
-            PacketHeader::Bad
-        }
+    let Some(register) = opened else {
+        return PacketHeader::Bad;
+    };
+    match operation(word) {
+        READ => PacketHeader::Read,
+        WRITE => PacketHeader::LongWrite {
+            register,
+            count: word & 0x7FF_FFFF,
+        },
+        _ => PacketHeader::Bad,
     }
 }
 
-fn packet(opened: Open, word: u32) -> PacketHeader
+// A header by its type, in bits 31..29; a word of zeros is padding.
+#[tactic(auto, unfolding(crate::specs::PacketHeaders::packet))]
+fn packet(opened: Option<Register>, word: u32) -> PacketHeader
     ensures { result ≡ packet opened word }
 {
     if word == 0 {
         return PacketHeader::Idle;
     }
-    let kind = word / 536870912;
-    if kind == 1 {
-        return type1(word);
+    match word >> 29 {
+        1 => type1(word),
+        2 => type2(opened, word),
+        _ => PacketHeader::Bad,
     }
-    if kind == 2 {
-        return type2(opened, word);
-    }
-    PacketHeader::Bad
 }
 
 // Stop 6 does not hold.
+#[tactic(auto, unfolding(crate::specs::PacketHeaders::ready, registers::specs::RegisterAddresses::address_of))]
 fn ready(register: Register, control: Control) -> bool
     ensures { result ≡ ready register control }
 {
     let flags = control.flags;
     let accepted = flags.idcode_ok && flags.flr_ok;
     let command = control.registers.cmd;
-    if is_fdri(register) {
-        return accepted && command == WCFG;
+    match register {
+        Register::Fdri => accepted && command == WCFG,
+        Register::Mfwr => accepted && command == MFWR && flags.buffer_valid,
+        _ => true,
     }
-    if is_mfwr(register) {
-        return accepted && command == MFWR && flags.buffer_valid;
-    }
-    true
 }
 
 // Stop 7 does not hold.
+#[tactic(auto, unfolding(crate::specs::PacketHeaders::counted, registers::specs::RegisterAddresses::address_of))]
 fn counted(register: Register, length: u32, count: u32) -> bool
     ensures { result ≡ counted register length count }
 {
-    if is_fdri(register) {
-        if length == 0 {
-            return count == 0;
-        }
-        return count % length == 0;
+    match register {
+        Register::Fdri => count.is_multiple_of(length),
+        Register::Mfwr => count == 2,
+        _ => true,
     }
-    if is_mfwr(register) {
-        return count == 2;
-    }
-    true
 }
 
+#[tactic(auto, unfolding(crate::specs::PacketHeaders::begin))]
 fn begin(register: Register, count: u32, control: Control) -> Transition
     ensures { result ≡ begin register count control }
 {
-    if ready(register, control) {
-        if counted(register, length_at(control.device), count) {
-            return going(
-                Phase::Data {
-                    register: register,
-                    left: count,
-                    filled: 0,
-                },
-                control,
-            );
-        }
+    if !ready(register, control) {
+        return stopped(Stop::NotReady, control);
+    }
+    if !counted(register, length_at(control.device), count) {
         return stopped(Stop::WrongCount, control);
     }
-    stopped(Stop::NotReady, control)
+    going(
+        Phase::Data {
+            register,
+            left: count,
+            filled: 0,
+        },
+        control,
+    )
 }
 
-fn type_one_write(found: RegisterAnswer, count: u32, control: Control) -> Transition
-    ensures { result ≡ type_one_write found count control }
-{
-    match found {
-        RegisterAnswer::NotWritable => stopped(Stop::BadRegister, control),
-        RegisterAnswer::Writable(register) => {
-            if count == 0 {
-                return going(Phase::Header(Open::After(register)), control);
-            }
-            begin(register, count, control)
-        }
-    }
-}
-
+#[tactic(auto, unfolding(crate::specs::PacketHeaders::obeyed, crate::specs::PacketHeaders::type_one_write))]
 fn obey(packet: PacketHeader, control: Control) -> Transition
     ensures { result ≡ obeyed packet control }
 {
     match packet {
-        PacketHeader::Idle => going(Phase::Header(Open::Closed), control),
-        PacketHeader::Bad => stopped(Stop::BadHeader, control),
-        PacketHeader::Read => stopped(Stop::ReadOperation, control),
-        PacketHeader::Write { address, count } => type_one_write(
-            register_at(address),
-            count,
+        PacketHeader::Idle | PacketHeader::LongWrite { count: 0, .. } => going(
+            Phase::Header(None),
             control,
         ),
-        PacketHeader::LongWrite { register, count } => {
-            if count == 0 {
-                return going(Phase::Header(Open::Closed), control);
-            }
-            begin(register, count, control)
-        }
+        PacketHeader::Bad => stopped(Stop::BadHeader, control),
+        PacketHeader::Read => stopped(Stop::ReadOperation, control),
+        PacketHeader::Write { address, count } => match register_at(address) {
+            None => stopped(Stop::BadRegister, control),
+            Some(register) if count == 0 => going(Phase::Header(Some(register)), control),
+            Some(register) => begin(register, count, control),
+        },
+        PacketHeader::LongWrite { register, count } => begin(register, count, control),
     }
 }
 
-pub(crate) fn header_word(opened: Open, control: Control, word: u32) -> Transition
+pub(crate) fn header_word(opened: Option<Register>, control: Control, word: u32) -> Transition
     ensures { result ≡ header_word opened control word }
 {
     obey(packet(opened, word), control)

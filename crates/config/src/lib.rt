@@ -25,18 +25,12 @@ pub enum PacketHeader {
     Bad,
 }
 
-// The register that a type 2 header would use, if the word before was a type 1 write of count 0.
-#[derive(Clone, Copy)]
-pub enum Open {
-    Closed,
-    After(Register),
-}
-
-// The phases, each with what it must know. filled counts the words of the frame that an FDRI packet has filled.
+// The phases, each with what it must know. A header knows the register that a type 2 header would use: that of the word before, if
+// it was a type 1 write of count 0. filled counts the words of the frame that an FDRI packet has filled.
 #[derive(Clone, Copy)]
 pub enum Phase {
     Hunting(PartialWord),
-    Header(Open),
+    Header(Option<Register>),
     Data {
         register: Register,
         left: u32,
@@ -46,15 +40,8 @@ pub enum Phase {
     Stopped(Stop),
 }
 
-// The frame that the next store goes to.
-#[derive(Clone, Copy)]
-pub enum Current {
-    Frame(u32),
-    NoFrame,
-}
-
 // The CRC register, and the last word that was written to each other register.
-#[derive(Clone, Copy)]
+#[derive(Clone, Copy, Default)]
 pub struct Registers {
     pub crc: u32,
     pub far: u32,
@@ -70,7 +57,7 @@ pub struct Registers {
 }
 
 // check_passed: a check has passed since START or power-on. buffer_valid: a frame is in the frame buffer.
-#[derive(Clone, Copy)]
+#[derive(Clone, Copy, Default)]
 pub struct Flags {
     pub idcode_ok: bool,
     pub flr_ok: bool,
@@ -81,13 +68,13 @@ pub struct Flags {
     pub started: bool,
 }
 
-// The record but for the phase and the frame buffer.
+// The record but for the phase and the frame buffer. current: the frame that the next store goes to.
 #[derive(Clone, Copy)]
 pub struct Control {
     pub device: u32,
     pub registers: Registers,
     pub flags: Flags,
-    pub current: Current,
+    pub current: Option<u32>,
     pub partial: PartialWord,
 }
 
@@ -123,80 +110,47 @@ ghost use Rattle.config.specs.StreamBytes.{byte};
 pub fn is_hunting(phase: Phase) -> bool
     ensures { result ≡ is_hunting phase }
 {
-    match phase {
-        Phase::Hunting(_) => true,
-        Phase::Header(_) => false,
-        Phase::Data {
-            register: _,
-            left: _,
-            filled: _,
-        } => false,
-        Phase::Crc => false,
-        Phase::Stopped(_) => false,
-    }
+    matches!(phase, Phase::Hunting(_))
 }
 
 // Stopped: no byte is taken any more.
 pub fn is_stopped(phase: Phase) -> bool
     ensures { result ≡ is_stopped phase }
 {
-    match phase {
-        Phase::Hunting(_) => false,
-        Phase::Header(_) => false,
-        Phase::Data {
-            register: _,
-            left: _,
-            filled: _,
-        } => false,
-        Phase::Crc => false,
-        Phase::Stopped(_) => true,
-    }
+    matches!(phase, Phase::Stopped(_))
 }
 
-// A whole word; hunting, which takes bytes, and stopped, which takes nothing, are handed back as they are.
+// Phase and control stand apart: the definitions and the laws of every step speak of each. A whole word; hunting, which takes bytes, and stopped, which takes nothing, are handed back as they are.
+#[tactic(auto, unfolding(crate::specs::DataWords::word))]
 pub fn word(phase: Phase, control: Control, w: u32) -> Transition
     ensures { result ≡ word phase control w }
 {
     match phase {
-        Phase::Hunting(_) => Transition {
-            phase: phase,
-            control: control,
-            event: Event::Nothing,
-        },
+        Phase::Hunting(_) | Phase::Stopped(_) => header::going(phase, control),
         Phase::Header(opened) => header::header_word(opened, control, w),
         Phase::Data {
             register,
             left,
             filled,
         } => data::data_word(register, left, filled, control, w),
-        Phase::Crc => data::crc_word(Phase::Header(Open::Closed), control, w),
-        Phase::Stopped(_) => Transition {
-            phase: phase,
-            control: control,
-            event: Event::Nothing,
-        },
+        Phase::Crc => data::crc_word(Phase::Header(None), control, w),
     }
 }
 
 // One byte. A stopped machine takes none: it is handed back as it is.
+#[tactic(auto, unfolding(crate::specs::StreamBytes::byte))]
 pub fn byte(phase: Phase, control: Control, x: u8) -> Transition
     ensures { result ≡ byte phase control x }
 {
-    let partial = control.partial;
     match phase {
         Phase::Hunting(window) => {
-            header::going(
-                stream::hunted(window, x),
-                stream::with_partial(PartialWord::Zero, control),
-            )
+            let emptied = Control {
+                partial: PartialWord::Zero,
+                ..control
+            };
+            header::going(stream::hunted(window, x), emptied)
         }
-        Phase::Header(_) => stream::gathered(partial, phase, control, x),
-        Phase::Data {
-            register: _,
-            left: _,
-            filled: _,
-        } => stream::gathered(partial, phase, control, x),
-        Phase::Crc => stream::gathered(partial, phase, control, x),
+        Phase::Header(_) | Phase::Data { .. } | Phase::Crc => stream::gathered(phase, control, x),
         Phase::Stopped(_) => header::going(phase, control),
     }
 }

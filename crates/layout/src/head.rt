@@ -1,123 +1,77 @@
 // The check of a layout: the desk's own numbers, then edition, device, step count and the list of steps.
 ghost use Rattle.std.specs.Prelude.{◌≡◌, ◌≤◌};
 ghost use Rattle.parts.specs.Table.{length_at};
-ghost use Rattle.answers.specs.declared.Answer.TheVariants as Answer;
-ghost use Rattle.numbers.specs.Number.{number_at};
-ghost use Rattle.layout.specs.Ownership.{for_desk};
-ghost use Rattle.layout.specs.StepReading.{desk_steps};
-ghost use Rattle.layout.specs.Layout.{most_steps, end_read, count_read, device_read, desk_layout_at, check_answer, check_at};
+ghost use Rattle.layout.specs.StepReading.{steps_at};
+ghost use Rattle.layout.specs.Inner.DeskReading.{of_desk};
+ghost use Rattle.layout.specs.Layout.{most_steps, end_read, layout_at, check_answer, check_at};
 
-use crate::FrameRange;
-use crate::step::{StepAt, step_at};
-use answers::{Answer, Refusal};
-use numbers::{Number, read_number};
-use parts::table::{PartAnswer, count_at, length_at, part_of};
+use crate::desk::{Desk, refused};
+use crate::step::PlacedStep;
+use answers::{Refusal, Refused};
+use parts::table::{count_at, length_at, part_of};
 
 // The most steps that a layout may have.
 const MOST_STEPS: u32 = 4096;
 
-fn refused(refusal: Refusal, at: usize) -> Answer
-    ensures { result ≡ Answer.Refused refusal at }
-{
-    Answer::Refused {
-        refusal: refusal,
-        told: at as u64,
-    }
-}
-
-// The list of steps, and the end.
-#[tactic(auto, using(crate::specs::Inner::CheckLoops::steps_trailing, crate::specs::Inner::CheckLoops::steps_accepted,))]
-fn layout_steps(device: u32, range: FrameRange, layout: &[u8], count: u32, start: usize) -> Answer
-    requires { count ≤ most_steps }
-    ensures { result ≡ check_answer (length_at device) (end_read layout.now (desk_steps device range layout.now count start)) }
-{
-    let length = length_at(device) as u64;
-    let mut at: usize = start;
-    let mut words: u64 = 12;
-    let mut left: u32 = count;
-    while 0 < left {
-        let step = step_at(device, range, layout, at);
-        match step {
-            StepAt::Refused { refusal, at: told } => {
-                return refused(refusal, told);
-            }
-            StepAt::FrameWrite { count, next, .. } => {
-                words += 7 + (count as u64 + 1) * length;
-                at = next;
-            }
-            StepAt::MultiFrameWrite { count, next, .. } => {
-                words += 7 + length + 5 * count as u64;
-                at = next;
+impl<'a> Desk<'a> {
+    // The list of steps, and the end.
+    #[tactic(auto, using(crate::specs::Inner::CheckLoops::answer_summed, crate::specs::Inner::CheckLoops::step_refused, crate::specs::Inner::CheckLoops::step_write, crate::specs::Inner::CheckLoops::step_multi, crate::specs::Inner::CheckLoops::steps_trailing, crate::specs::Inner::CheckLoops::steps_accepted, crate::specs::Inner::StepSizes::write_words, crate::specs::Inner::StepSizes::multi_words))]
+    fn steps(self, count: u32, start: usize) -> Result<u64, Refused>
+        requires { count ≤ most_steps }
+        ensures { result ≡ check_answer (length_at self.entry.device) (end_read self.entry.layout.now (of_desk steps_at self.entry count start)) }
+    {
+        let length = length_at(self.device) as u64;
+        let mut at = start;
+        let mut words: u64 = 12;
+        for _ in 0..count {
+            match self.step(at)? {
+                PlacedStep::FrameWrite { count, next, .. } => {
+                    words += 7 + (count as u64 + 1) * length;
+                    at = next;
+                }
+                PlacedStep::MultiFrameWrite { count, next, .. } => {
+                    words += 7 + length + 5 * count as u64;
+                    at = next;
+                }
             }
         }
-        left -= 1;
-    }
-    if at < layout.len() {
-        return refused(Refusal::Trailing, at);
-    }
-    Answer::Done(4 * words)
-}
-
-// The step count at an offset, then the steps.
-fn layout_count(device: u32, range: FrameRange, layout: &[u8], at: usize) -> Answer
-    ensures { result ≡ check_answer (length_at device) (for_desk count_read device range layout.now at (number_at layout.now at)) }
-{
-    let read = read_number(layout, at);
-    match read {
-        Number::Refused(refusal) => refused(refusal, at),
-        Number::Value { value, next } => {
-            if MOST_STEPS < value {
-                return refused(Refusal::TooManySteps, at);
-            }
-            layout_steps(device, range, layout, value, next)
+        if at < self.layout.len() {
+            return Err(refused(Refusal::Trailing, at));
         }
+        Ok(4 * words)
     }
-}
 
-// The layout's device at an offset, then the rest.
-fn layout_device(device: u32, range: FrameRange, layout: &[u8], at: usize) -> Answer
-    ensures { result ≡ check_answer (length_at device) (for_desk device_read device range layout.now device at (number_at layout.now at)) }
-{
-    let read = read_number(layout, at);
-    match read {
-        Number::Refused(refusal) => refused(refusal, at),
-        Number::Value { value, next } => {
-            if value != device {
-                return refused(Refusal::WrongDevice, at);
-            }
-            layout_count(device, range, layout, next)
+    // The layout from its edition on, which stands at an offset.
+    #[tactic(auto, unfolding(crate::specs::Layout::edition_read, crate::specs::Layout::device_read, crate::specs::Layout::count_read, crate::specs::Layout::check_answer))]
+    fn layout(self, at: usize) -> Result<u64, Refused>
+        ensures { result ≡ check_answer (length_at self.entry.device) (of_desk layout_at self.entry self.entry.device at) }
+    {
+        let edition = self.number(at)?;
+        if edition.value != 1 {
+            return Err(refused(Refusal::WrongEdition, at));
         }
+        let device = self.number(edition.next)?;
+        if device.value != self.device {
+            return Err(refused(Refusal::WrongDevice, edition.next));
+        }
+        let steps = self.number(device.next)?;
+        if MOST_STEPS < steps.value {
+            return Err(refused(Refusal::TooManySteps, device.next));
+        }
+        self.steps(steps.value, steps.next)
     }
-}
 
-// The layout from its edition on, which stands at an offset.
-fn layout_edition(device: u32, range: FrameRange, layout: &[u8], at: usize) -> Answer
-    ensures { result ≡ check_answer (length_at device) (desk_layout_at device range layout.now at) }
-{
-    let read = read_number(layout, at);
-    match read {
-        Number::Refused(refusal) => refused(refusal, at),
-        Number::Value { value, next } => {
-            if value != 1 {
-                return refused(Refusal::WrongEdition, at);
-            }
-            layout_device(device, range, layout, next)
+    // The layout that begins at an offset: 21, 37, then the layout front to back.
+    #[tactic(auto, unfolding(crate::specs::Layout::check_for))]
+    pub(crate) fn check(self, at: usize) -> Result<u64, Refused>
+        ensures { result ≡ check_at self.entry.device self.entry.range self.entry.layout.now at }
+    {
+        if let Err(refusal) = part_of(self.device) {
+            return Err(refused(refusal, 0));
         }
-    }
-}
-
-// The layout that begins at an offset: 21, 37, then the layout front to back.
-pub(crate) fn check_at(device: u32, range: FrameRange, layout: &[u8], at: usize) -> Answer
-    ensures { result ≡ check_at device range layout.now at }
-{
-    let part = part_of(device);
-    match part {
-        PartAnswer::Refused(refusal) => refused(refusal, 0),
-        PartAnswer::Known(_) => {
-            if (count_at(device) as u64) < range.first as u64 + range.count as u64 {
-                return refused(Refusal::WrongRange, 0);
-            }
-            layout_edition(device, range, layout, at)
+        if (count_at(self.device) as u64) < self.range.first as u64 + self.range.count as u64 {
+            return Err(refused(Refusal::WrongRange, 0));
         }
+        self.layout(at)
     }
 }

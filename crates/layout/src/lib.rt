@@ -1,6 +1,7 @@
 // The layout reader: checks a layout for a device and the frames that the desk names.
 #![tactic(auto)]
 
+mod desk; // desk.rt: what a layout is read for
 mod head; // head.rt: the check of a layout at an offset
 mod range; // range.rt: which frames are owned
 pub mod reader; // reader.rt: the layout and the offset reached, as one value
@@ -11,7 +12,7 @@ ghost use Rattle.std.specs.Prelude.{◌≡◌};
 ghost use Rattle.layout.specs.Layout.{check};
 
 use crate::reader::LayoutReader;
-use answers::Answer;
+use answers::Refused;
 
 // The frames that the desk names: 01's seat.
 #[derive(Clone, Copy)]
@@ -20,8 +21,8 @@ pub struct FrameRange {
     pub count: u32,
 }
 
-// Checks a layout: 21, 37, then the layout front to back. Done: with the length of its stream in bytes.
-pub fn check(device: u32, range: FrameRange, layout: &[u8]) -> Answer
+// Checks a layout: 21, 37, then the layout front to back. Ok: the length of its stream in bytes.
+pub fn check(device: u32, range: FrameRange, layout: &[u8]) -> Result<u64, Refused>
     ensures { result ≡ check device range layout.now }
 {
     LayoutReader::new(layout, 0).check(device, range)

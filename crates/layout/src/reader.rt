@@ -1,11 +1,12 @@
-// The layout reader: a lent layout, and the offset reached in it. Its functions take it apart and call those on slice and offset.
+// The layout reader: a lent layout, and the offset reached in it.
 ghost use Rattle.std.specs.Prelude.{◌≡◌};
 ghost use Rattle.layout.specs.LayoutReader.{opened, step, check};
+ghost use Rattle.layout.specs.Inner.DeskReading.{lender};
 
 use crate::FrameRange;
-use crate::head::check_at;
-use crate::step::{StepAt, step_at};
-use answers::Answer;
+use crate::desk::Desk;
+use crate::step::PlacedStep;
+use answers::Refused;
 
 #[derive(Clone, Copy)]
 pub struct LayoutReader<'a> {
@@ -21,17 +22,28 @@ impl<'a> LayoutReader<'a> {
         LayoutReader { layout, at }
     }
 
+    // The desk that lends the layout.
+    fn desk(self, device: u32, range: FrameRange) -> Desk<'a>
+        ensures { result ≡ lender device range self.entry.layout }
+    {
+        Desk {
+            device,
+            range,
+            layout: self.layout,
+        }
+    }
+
     // The step at the offset.
-    pub fn step(self, device: u32, range: FrameRange) -> StepAt
+    pub fn step(self, device: u32, range: FrameRange) -> Result<PlacedStep, Refused>
         ensures { result ≡ step device range self.entry }
     {
-        step_at(device, range, self.layout, self.at)
+        self.desk(device, range).step(self.at)
     }
 
     // Checks the layout that begins at the offset.
-    pub fn check(self, device: u32, range: FrameRange) -> Answer
+    pub fn check(self, device: u32, range: FrameRange) -> Result<u64, Refused>
         ensures { result ≡ check device range self.entry }
     {
-        check_at(device, range, self.layout, self.at)
+        self.desk(device, range).check(self.at)
     }
 }

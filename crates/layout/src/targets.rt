@@ -1,77 +1,49 @@
 // The targets of a MultiFrameWrite.
-ghost use Rattle.std.specs.Prelude.{◌≡◌, ◌+◌, ◌*◌, ◌≤◌, length};
-ghost use Rattle.parts.specs.Table.{length_at, count_at};
+ghost use Rattle.std.specs.Prelude.{◌≡◌};
+ghost use Rattle.parts.specs.Table.{count_at};
+ghost use Rattle.numbers.specs.Number.{number_at};
 ghost use Rattle.layout.specs.Ownership.{owns};
-ghost use Rattle.layout.specs.StepReading.{judged_target, targets_at, targets_read};
+ghost use Rattle.layout.specs.StepReading.{judged_target, targets_at};
+ghost use Rattle.layout.specs.Inner.DeskReading.{ToldAt, ended};
 
-use crate::FrameRange;
+use crate::desk::{Desk, refused};
 use crate::range::owns;
-use crate::step::StepAt;
-use answers::Refusal;
-use numbers::{Number, read_number};
-use parts::table::{count_at, length_at};
+use answers::{Refusal, Refused};
+use numbers::Number;
+use parts::table::count_at;
 
-// A target that was read, judged: low is the least that rises.
-fn judged_target(frames: u32, range: FrameRange, low: u64, target: Number) -> Number
-    ensures { result ≡ judged_target frames (owns range) low target }
-{
-    match target {
-        Number::Refused(refusal) => Number::Refused(refusal),
-        Number::Value { value, next } => {
-            if (value as u64) < low {
-                return Number::Refused(Refusal::NotRising);
-            }
-            if frames <= value {
-                return Number::Refused(Refusal::OutsidePart);
-            }
-            if !owns(range, value as u64) {
-                return Number::Refused(Refusal::OutsideRange);
-            }
-            Number::Value {
-                value: value,
-                next: next,
-            }
+impl<'a> Desk<'a> {
+    // The target at an offset, judged for a part of some frames: low is the least that rises.
+    #[tactic(auto, unfolding(crate::specs::StepReading::judged_target))]
+    fn target(self, frames: u32, low: u64, at: usize) -> Result<Number, Refused>
+        ensures { ToldAt at (judged_target frames (owns self.entry.range) low (number_at self.entry.layout.now at)) result }
+    {
+        let target = self.number(at)?;
+        if (target.value as u64) < low {
+            return Err(refused(Refusal::NotRising, at));
         }
+        if frames <= target.value {
+            return Err(refused(Refusal::OutsidePart, at));
+        }
+        if !owns(self.range, target.value as u64) {
+            return Err(refused(Refusal::OutsideRange, at));
+        }
+        Ok(target)
     }
-}
 
-// The step whose frame lies at an offset, once its targets are read.
-pub(crate) fn multi_targets(
-    device: u32,
-    range: FrameRange,
-    layout: &[u8],
-    count: u32,
-    body: usize,
-) -> StepAt
-    requires { body + 4 * length_at device ≤ length layout.now }
-    ensures { result ≡ targets_read (length_at device) count body (targets_at (count_at device) (owns range) layout.now count 0 (body + 4 * length_at device)) }
-{
-    let frames = count_at(device);
-    let targets = body + 4 * length_at(device) as usize;
-    let mut at: usize = targets;
-    let mut low: u64 = 0;
-    let mut left: u32 = count;
-    while 0 < left {
-        let read = read_number(layout, at);
-        let target = judged_target(frames, range, low, read);
-        match target {
-            Number::Refused(refusal) => {
-                return StepAt::Refused {
-                    refusal: refusal,
-                    at: at,
-                };
-            }
-            Number::Value { value, next } => {
-                low = value as u64 + 1;
-                at = next;
-                left -= 1;
-            }
+    // The offset after the targets that stand at an offset.
+    #[tactic(auto, using(crate::specs::Inner::CheckLoops::target_refused, crate::specs::Inner::CheckLoops::target_next, crate::specs::Inner::CheckLoops::targets_done))]
+    pub(crate) fn past_targets(self, count: u32, start: usize) -> Result<usize, Refused>
+        ensures { result ≡ ended (targets_at (count_at self.entry.device) (owns self.entry.range) self.entry.layout.now count 0 start) }
+    {
+        let frames = count_at(self.device);
+        let mut at = start;
+        let mut low: u64 = 0;
+        for _ in 0..count {
+            let Number { value, next } = self.target(frames, low, at)?;
+            low = value as u64 + 1;
+            at = next;
         }
-    }
-    StepAt::MultiFrameWrite {
-        count: count,
-        body: body,
-        targets: targets,
-        next: at,
+        Ok(at)
     }
 }

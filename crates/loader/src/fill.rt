@@ -1,47 +1,60 @@
 // Words of an FDRI packet that only fill the frame buffer: a loop that copies no record.
-ghost use Rattle.std.specs.Prelude.{◌≡◌, ◌+◌, ◌*◌, ◌≤◌, length};
-ghost use Rattle.crc16.specs.CrcRegister.{fed_words};
-ghost use Rattle.words.specs.WordsInBytes.{words_at};
-ghost use Rattle.loader.specs.Inner.FillWords.{last_of, kept_all};
+ghost use Rattle.std.specs.Prelude.{◌≡◌, ◌+◌, ◌-◌, ◌*◌, ◌≤◌, length};
+ghost use Rattle.std.proofs.lemmas.List.Edits.{sets};
+ghost use Rattle.registers.specs.declared.Register.TheVariants as Register;
+ghost use Rattle.config.specs.declared.Phase.TheVariants as Phase;
+ghost use Rattle.words.specs.WordsInBytes.{words_from};
+ghost use Rattle.loader.specs.Inner.FillWords.{filled_registers, filled_control};
 
-use record::FrameBuffer;
+use config::{Phase, Registers};
+use crc16::feed;
+use record::Record;
+use registers::{Register, address_of};
 use words::word_at;
 
-// The CRC after the words, and the last of them.
-#[derive(Clone, Copy)]
-pub struct Filled {
-    pub crc: u32,
-    pub last: u32,
+// How many of the words at hand only fill the buffer: none completes the frame or the packet.
+pub(crate) fn fillable(left: u32, filled: u32, words: u32, room: usize) -> usize
+    ensures { (result ≤ left - 1) × (result ≤ words - (filled + 1)) × (result ≤ room) }
+{
+    let packet = left.saturating_sub(1) as usize;
+    let frame = words.saturating_sub(filled).saturating_sub(1) as usize;
+    room.min(packet).min(frame)
 }
 
-// Feeds n words from an offset on and keeps them from a place of the buffer on.
-pub(crate) fn fill(
-    frame: &mut FrameBuffer,
-    at: usize,
-    crc: u32,
-    last: u32,
-    bytes: &[u8],
-    from: usize,
-    n: usize,
-) -> Filled
-    requires { (at + n ≤ 213) × (from + 4 * n ≤ length bytes.now) }
-    ensures crc_value { result.crc ≡ fed_words crc 2 (words_at bytes.now from n) }
-    ensures last_value { result.last ≡ last_of (words_at bytes.now from n) last }
-    ensures frame_after { frame.new ≡ kept_all (words_at bytes.now from n) at frame.old }
+// Puts a word into each place, feeds it to the CRC and holds it in FDRI.
+fn put(places: &mut [u32], registers: &mut Registers, bytes: &[u8])
+    requires { 4 * length places.old ≤ length bytes.now }
+    ensures places_after { places.new ≡ words_from (length places.old) bytes.now }
+    ensures registers_after { registers.new ≡ filled_registers (words_from (length places.old) bytes.now) registers.old }
 {
-    // one copy of the table serves all words
-    let table = crc16::table();
-    let mut register = crc;
-    let mut word = last;
-    let mut k: usize = 0;
-    while k < n {
-        word = word_at(bytes, from + 4 * k);
-        register = crc16::feed_with(&table, register, 2, word);
-        frame[at + k] = word;
-        k += 1;
+    let fdri = address_of(Register::Fdri);
+    let mut crc = registers.crc;
+    let mut last = registers.fdri;
+    for (k, place) in places.iter_mut().enumerate() {
+        last = word_at(bytes, 4 * k);
+        crc = feed(crc, fdri, last);
+        *place = last;
     }
-    Filled {
-        crc: register,
-        last: word,
-    }
+    registers.crc = crc;
+    registers.fdri = last;
+}
+
+// Takes n of the words left, which only fill the buffer, and keeps them from the place `filled` on.
+pub(crate) fn fill(device: &mut Record, left: u32, filled: u32, n: usize, bytes: &[u8])
+    requires { (n ≤ left) × (filled + n ≤ 213) × (4 * n ≤ length bytes.now) }
+    ensures phase_after { device.new.phase ≡ Phase.Data Register.Fdri (left - n) (filled + n) }
+    ensures control_after { device.new.control ≡ filled_control (words_from n bytes.now) device.old.control }
+    ensures frame_after { device.new.frame ≡ sets device.old.frame filled (words_from n bytes.now) }
+{
+    let from = filled as usize;
+    put(
+        &mut device.frame[from..from + n],
+        &mut device.control.registers,
+        bytes,
+    );
+    device.phase = Phase::Data {
+        register: Register::Fdri,
+        left: left - n as u32,
+        filled: filled + n as u32,
+    };
 }

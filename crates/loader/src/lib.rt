@@ -7,111 +7,78 @@ mod turn; // turn.rt: the next bytes of a piece
 
 ghost use Rattle.std.specs.Prelude.{◌≡◌};
 ghost use Rattle.loader.specs.Run.{run};
-ghost use Rattle.loader.specs.Load.{answer_of, load};
+ghost use Rattle.loader.specs.Load.{answer_of, refused, load};
 
-use answers::{LoadAnswer, Refusal};
+use answers::{LoadError, Refusal};
 use config::{Phase, is_stopped};
-use record::Record;
+use parts::table::memory_at;
+use record::{Record, consistent};
 
 // The record after a load, the answer, and the bytes taken from this piece.
 #[derive(Clone, Copy)]
 pub struct Loaded {
     pub record: Record,
-    pub answer: LoadAnswer,
+    pub answer: Result<(), LoadError>,
     pub taken: u64,
 }
 
-// The record after the bytes of a piece.
-#[derive(Clone, Copy)]
-struct Progress {
-    record: Record,
-    taken: u64,
-}
-
-fn answer_of(phase: Phase) -> LoadAnswer
+#[tactic(auto, unfolding(crate::specs::Load::answer_of))]
+fn answer_of(phase: Phase) -> Result<(), LoadError>
     ensures { result ≡ answer_of phase }
 {
     match phase {
-        Phase::Hunting(_) => LoadAnswer::Done,
-        Phase::Header(_) => LoadAnswer::Done,
-        Phase::Data {
-            register: _,
-            left: _,
-            filled: _,
-        } => LoadAnswer::Done,
-        Phase::Crc => LoadAnswer::Done,
-        Phase::Stopped(stop) => LoadAnswer::Stopped(stop),
+        Phase::Stopped(stop) => Err(LoadError::Stopped(stop)),
+        _ => Ok(()),
     }
 }
 
-// The bytes of a piece up to its end or a stop.
-fn run(d: Record, memory: &mut [u8], bytes: &[u8]) -> Progress
-    ensures record_value { result.«record» ≡ (run d memory.old bytes.now).«record» }
-    ensures taken_value { result.taken ≡ (run d memory.old bytes.now).taken }
-    ensures memory_after { memory.new ≡ (run d memory.old bytes.now).memory }
+// The bytes of a piece up to its end or a stop; how many were taken.
+fn run(device: &mut Record, memory: &mut [u8], bytes: &[u8]) -> usize
+    ensures record_value { device.new ≡ (run device.old memory.old bytes.now).«record» }
+    ensures memory_after { memory.new ≡ (run device.old memory.old bytes.now).memory }
+    ensures taken_value { result ≡ (run device.old memory.old bytes.now).taken }
 {
-    let mut phase = d.phase;
-    let mut control = d.control;
-    let mut frame = d.frame;
-    let length = parts::table::length_at(control.device);
-    let mut i: usize = 0;
-    while i < bytes.len() {
-        if is_stopped(phase) {
-            return Progress {
-                record: Record {
-                    phase: phase,
-                    control: control,
-                    frame: frame,
-                },
-                taken: i as u64,
-            };
-        }
-        let t = turn::advance(phase, control, length, &mut frame, memory, bytes, i);
-        let next = t.phase;
-        let state = t.control;
-        phase = next;
-        control = state;
-        i += t.taken;
+    let mut rest = bytes;
+    // a `while`: a turn takes as many bytes as it can
+    while !rest.is_empty() && !is_stopped(device.phase) {
+        let taken = turn::advance(device, memory, rest);
+        rest = &rest[taken..];
     }
-    Progress {
-        record: Record {
-            phase: phase,
-            control: control,
-            frame: frame,
-        },
-        taken: i as u64,
+    bytes.len() - rest.len()
+}
+
+// A refusal hands the same record back.
+fn refused(d: Record, refusal: Refusal) -> Loaded
+    ensures record_value { result.«record» ≡ d }
+    ensures answer_value { result.answer ≡ Err (LoadError.Refused refusal) }
+    ensures taken_value { result.taken ≡ 0 }
+{
+    Loaded {
+        record: d,
+        answer: Err(LoadError::Refused(refusal)),
+        taken: 0,
     }
 }
 
 // Load: 22, then 23, then the stop or done, with the bytes taken from this piece.
+#[tactic(auto, unfolding(crate::specs::Load::load))]
 pub fn load(d: Record, memory: &mut [u8], bytes: &[u8]) -> Loaded
     ensures record_value { result.«record» ≡ (load d memory.old bytes.now).«record» }
     ensures answer_value { result.answer ≡ (load d memory.old bytes.now).answer }
     ensures taken_value { result.taken ≡ (load d memory.old bytes.now).taken }
     ensures memory_after { memory.new ≡ (load d memory.old bytes.now).memory }
 {
-    let control = d.control;
-    if !record::consistent(d) {
-        return Loaded {
-            record: d,
-            answer: LoadAnswer::Refused(Refusal::Inconsistent),
-            taken: 0,
-        };
+    if !consistent(d) {
+        return refused(d, Refusal::Inconsistent);
     }
-    let wanted = parts::table::memory_at(control.device);
-    if memory.len() != wanted as usize {
-        return Loaded {
-            record: d,
-            answer: LoadAnswer::Refused(Refusal::WrongMemory),
-            taken: 0,
-        };
+    if memory.len() != memory_at(d.control.device) as usize {
+        return refused(d, Refusal::WrongMemory);
     }
-    let progress = run(d, memory, bytes);
-    let record = progress.record;
-    let last = record.phase;
+    let mut record = d;
+    let taken = run(&mut record, memory, bytes);
     Loaded {
-        record: record,
-        answer: answer_of(last),
-        taken: progress.taken,
+        record,
+        answer: answer_of(record.phase),
+        taken: taken as u64,
     }
 }

@@ -1,10 +1,9 @@
 -- The eight parts and the figures that follow from R, C and B.
 -- Sources: 01, "The eight parts"; 001, Tables 7 and 8.
-use Rattle.std.specs.Prelude.{ℕ, ◌+◌, ◌*◌, List, [], ◌∷◌, cond, ltb, get_or}
+use Rattle.std.specs.Prelude.{ℕ, ◌+◌, ◌*◌, List, [], ◌∷◌, cond, ltb, get_or, Result, Ok, Err}
 use Rattle.answers.specs.StopsAndRefusals.{refusal_number}
-use Rattle.answers.specs.declared.Refusal.TheVariants as Refusal
+use Rattle.answers.specs.declared.Refusal.{Refusal}
 use Rattle.parts.specs.declared.table.Part.{Part}
-use Rattle.parts.specs.declared.table.PartAnswer.{PartAnswer}
 
 abbrev pub part : ℕ → ℕ → ℕ → ℕ → Part
 part i r c b = record { idcode = i; rows = r; columns = c; ram_columns = b }
@@ -23,18 +22,18 @@ parts =
     ∷ []
 
 -- 01, refusal 21: device number above 7
-unfoldable pub part_of : ℕ → PartAnswer
-part_of d = cond (ltb d 8) (PartAnswer.Known (get_or parts d (part 0 0 0 0))) (PartAnswer.Refused Refusal.UnknownDevice)
+unfoldable pub part_of : ℕ → Result Part Refusal
+part_of d = cond (ltb d 8) (Ok (get_or parts d (part 0 0 0 0))) (Err Refusal.UnknownDevice)
 
 -- the number of an answer, 0 where there is a part
-abbrev pub part_refusal : PartAnswer → ℕ
-part_refusal (PartAnswer.Known p) = 0
-part_refusal (PartAnswer.Refused c) = refusal_number c
+abbrev pub part_refusal : Result Part Refusal → ℕ
+part_refusal (Ok p) = 0
+part_refusal (Err c) = refusal_number c
 
 -- a figure of a part, for the part that a device number names; 0 where it names none
-unfoldable pub figure_of : (Part → ℕ) → PartAnswer → ℕ
-figure_of f (PartAnswer.Known p) = f p
-figure_of f (PartAnswer.Refused c) = 0
+unfoldable pub figure_of : (Part → ℕ) → Result Part Refusal → ℕ
+figure_of f (Ok p) = f p
+figure_of f (Err c) = 0
 
 abbrev pub figure : (Part → ℕ) → ℕ → ℕ
 figure f d = figure_of f (part_of d)

@@ -1,9 +1,9 @@
 // The table of the eight parts, and what follows from it by device number.
-ghost use Rattle.std.specs.Prelude.{◌≡◌};
-ghost use Rattle.parts.specs.Table.{part_of, part_refusal, frame_length, frame_count, idcode_at, length_at, count_at, memory_at};
+ghost use Rattle.std.specs.Prelude.{◌≡◌, Ok, Err, IfOk, IfErr};
+ghost use Rattle.parts.specs.Table.{part_of, part_refusal, idcode_of, frame_length, frame_count, memory_length, idcode_at, length_at, count_at, memory_at};
 ghost use Rattle.parts.specs.Inner.PartLimits.{Limits};
 
-use answers::{Refusal, refusal_number};
+use answers::{Refusal, refused_number};
 
 // What tells one part from another: R, C and B of 01 are rows, columns and ram_columns.
 #[derive(Clone, Copy)]
@@ -14,11 +14,11 @@ pub struct Part {
     pub ram_columns: u32,
 }
 
-// The part that a device number names.
+// A part of the table: its numbers keep within the table's limits.
 #[derive(Clone, Copy)]
-pub enum PartAnswer {
-    Known(Part),
-    Refused(Refusal),
+pub(crate) struct TablePart {
+    pub(crate) part: Part,
+    ghost limits: { Limits part },
 }
 
 const PARTS: [Part; 8] = [
@@ -74,84 +74,94 @@ const PARTS: [Part; 8] = [
 
 // The part of a device number.
 #[tactic(auto, unfolding(crate::specs::Table::part_of, crate::specs::Table::parts))]
-pub fn part_of(device: u32) -> PartAnswer
+pub fn part_of(device: u32) -> Result<Part, Refusal>
     ensures { result ≡ part_of device }
 {
-    if device < 8 {
-        let i = device as usize;
-        let table = PARTS;
-        PartAnswer::Known(table[i])
-    } else {
-        PartAnswer::Refused(Refusal::UnknownDevice)
-    }
+    PARTS
+        .get(device as usize)
+        .copied()
+        .ok_or(Refusal::UnknownDevice)
 }
 
 // The number of an answer, 0 where there is a part.
-pub fn part_refusal(answer: PartAnswer) -> u32
+#[tactic(auto, using(crate::specs::Inner::RefusalNumbers::part_refused))]
+pub fn part_refusal(answer: Result<Part, Refusal>) -> u32
     ensures { result ≡ part_refusal answer }
 {
-    match answer {
-        PartAnswer::Known(_) => 0,
-        PartAnswer::Refused(refusal) => refusal_number(refusal),
+    refused_number(answer)
+}
+
+// The part of a device number, with what every part of the table keeps within.
+#[tactic(auto, using(crate::proofs::Laws::PrintedFigures::known_limits))]
+pub(crate) fn table_part(device: u32) -> Result<TablePart, Refusal>
+    ensures known { IfOk result (λ known. part_of device ≡ Ok known.part) }
+    ensures unknown { IfErr result (λ refusal. part_of device ≡ Err refusal) }
+{
+    let part = part_of(device)?;
+    Ok(TablePart { part })
+}
+
+impl TablePart {
+    #[tactic(auto, unfolding(crate::specs::Table::idcode_of))]
+    fn idcode(self) -> u32
+        ensures { result ≡ idcode_of self.part }
+    {
+        self.part.idcode
     }
-}
 
-// The words of a frame of a part of the table.
-fn length_of(part: Part) -> u32
-    requires { Limits part }
-    ensures { result ≡ frame_length part }
-{
-    2 * part.rows + 5
-}
+    // The words of a frame.
+    #[tactic(auto, unfolding(crate::specs::Table::frame_length))]
+    fn length(self) -> u32
+        ensures { result ≡ frame_length self.part }
+    {
+        2 * self.part.rows + 5
+    }
 
-// The frames of a part of the table.
-fn count_of(part: Part) -> u32
-    requires { Limits part }
-    ensures { result ≡ frame_count part }
-{
-    45 + 19 * part.columns + 95 * part.ram_columns
+    // The frames of the part.
+    #[tactic(auto, unfolding(crate::specs::Table::frame_count))]
+    fn count(self) -> u32
+        ensures { result ≡ frame_count self.part }
+    {
+        45 + 19 * self.part.columns + 95 * self.part.ram_columns
+    }
+
+    // The bytes of all frames.
+    #[tactic(auto, unfolding(crate::specs::Table::memory_length), using(crate::proofs::Laws::PrintedFigures::length_limit, crate::proofs::Laws::PrintedFigures::memory_limit))]
+    fn memory(self) -> u32
+        ensures { result ≡ memory_length self.part }
+    {
+        4 * self.length() * self.count()
+    }
 }
 
 // The word that an IDCODE write must hold. This and the figures below are 0 where the number names no part.
+#[tactic(auto, unfolding(crate::specs::Table::figure_of))]
 pub fn idcode_at(device: u32) -> u32
     ensures { result ≡ idcode_at device }
 {
-    let p = part_of(device);
-    match p {
-        PartAnswer::Known(part) => part.idcode,
-        PartAnswer::Refused(_) => 0,
-    }
+    table_part(device).map_or(0, TablePart::idcode)
 }
 
 // The words of a frame.
+#[tactic(auto, unfolding(crate::specs::Table::figure_of))]
 pub fn length_at(device: u32) -> u32
     ensures { result ≡ length_at device }
 {
-    let p = part_of(device);
-    match p {
-        PartAnswer::Known(part) => length_of(part),
-        PartAnswer::Refused(_) => 0,
-    }
+    table_part(device).map_or(0, TablePart::length)
 }
 
 // The frames of the part.
+#[tactic(auto, unfolding(crate::specs::Table::figure_of))]
 pub fn count_at(device: u32) -> u32
     ensures { result ≡ count_at device }
 {
-    let p = part_of(device);
-    match p {
-        PartAnswer::Known(part) => count_of(part),
-        PartAnswer::Refused(_) => 0,
-    }
+    table_part(device).map_or(0, TablePart::count)
 }
 
 // The bytes of all frames.
+#[tactic(auto, unfolding(crate::specs::Table::figure_of))]
 pub fn memory_at(device: u32) -> u32
     ensures { result ≡ memory_at device }
 {
-    let p = part_of(device);
-    match p {
-        PartAnswer::Known(part) => 4 * length_of(part) * count_of(part),
-        PartAnswer::Refused(_) => 0,
-    }
+    table_part(device).map_or(0, TablePart::memory)
 }

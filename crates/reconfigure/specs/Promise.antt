@@ -1,19 +1,16 @@
 -- What a reconfiguration promises, by its answer: where it is done, demand 3; where it is refused, that nothing changed.
 -- Source: demand 3 (docs/DEMAND-3.md); 01, "Layouts": "Demand 3 does the steps on a plain machine"; "A refused layout has no stream and does nothing".
-use Rattle.std.specs.Prelude.{◌≡◌, List, true, false, ℕ}
+use Rattle.std.specs.Prelude.{◌≡◌, List, true, false, ℕ, Ok, Err}
 use Rattle.parts.specs.Table.{length_at}
 use Rattle.parts.specs.FrameMemory.{frame_of}
-use Rattle.answers.specs.declared.Answer.{Answer}
-use Rattle.answers.specs.declared.Answer.TheVariants as Answer
 use Rattle.config.specs.declared.PartialWord.{PartialWord}
-use Rattle.config.specs.declared.PartialWord.TheVariants as PartialWord
 use Rattle.config.specs.declared.Phase.{Phase}
-use Rattle.config.specs.declared.Phase.TheVariants as Phase
 use Rattle.record.specs.Consistency.{consistent}
 use Rattle.record.specs.declared.Record.{Record}
 use Rattle.layout.specs.Ownership.{owns}
 use Rattle.layout.specs.ReferenceMachine.{machine}
 use Rattle.layout.specs.declared.FrameRange.{FrameRange}
+use Rattle.answers.specs.AnswerNumbers.{Answer}
 
 -- the record is still the part's and waits for sync again, with no bytes remembered, neither of a sync word nor of another; the memory is
 -- the reference machine's; frames outside the range stay
@@ -27,5 +24,5 @@ pub record Effect (d : ℕ) (r : FrameRange) (b m : List ℕ) (e : Record) (k : 
 
 -- of record e₀ and memory m, by the answer, with record e and memory k afterwards: done, the effect; refused, both as they were
 abbrev pub Promised : FrameRange → List ℕ → Record → List ℕ → Answer → Record → List ℕ → Type 0
-Promised r b e₀ m (Answer.Done n) e k = Effect e₀.control.device r b m e k
-Promised r b e₀ m (Answer.Refused c told) e k = (e ≡ e₀) × (k ≡ m)
+Promised r b e₀ m (Ok n) e k = Effect e₀.control.device r b m e k
+Promised r b e₀ m (Err x) e k = (e ≡ e₀) × (k ≡ m)

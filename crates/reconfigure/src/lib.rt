@@ -1,44 +1,32 @@
 // Compile, then load: what a check of a layout against a desk's part calls.
 #![tactic(auto)]
 
-ghost use Rattle.std.specs.Prelude.{◌≡◌};
-ghost use Rattle.answers.specs.declared.Answer.TheVariants as Answer;
+ghost use Rattle.std.specs.Prelude.{◌≡◌, Err};
+ghost use Rattle.answers.specs.AnswerNumbers.{refused as refused_so};
 ghost use Rattle.reconfigure.specs.Reconfigured.{reconfigured};
 ghost use Rattle.reconfigure.specs.Promise.{Promised};
 
-use answers::{Answer, Refusal};
+use answers::{Refusal, Refused};
 use config::is_hunting;
 use layout::FrameRange;
-use record::Record;
+use parts::table::memory_at;
+use record::{Record, consistent};
 
 // The record afterwards, and the answer.
 #[derive(Clone, Copy)]
 pub struct Reconfigured {
     pub record: Record,
-    pub answer: Answer,
-}
-
-fn answered(record: Record, answer: Answer) -> Reconfigured
-    ensures record_value { result.«record» ≡ «record» }
-    ensures answer_value { result.answer ≡ answer }
-{
-    Reconfigured {
-        record: record,
-        answer: answer,
-    }
+    pub answer: Result<u64, Refused>,
 }
 
 // Refused with 0 told, the record as it was.
 fn refused(record: Record, refusal: Refusal) -> Reconfigured
     ensures record_value { result.«record» ≡ «record» }
-    ensures answer_value { result.answer ≡ Answer.Refused refusal 0 }
+    ensures answer_value { result.answer ≡ Err (refused_so refusal 0) }
 {
     Reconfigured {
-        record: record,
-        answer: Answer::Refused {
-            refusal: refusal,
-            told: 0,
-        },
+        record,
+        answer: Err(Refused { refusal, told: 0 }),
     }
 }
 
@@ -57,24 +45,23 @@ pub fn reconfigure(
     ensures output_after { output.new ≡ (reconfigured «record» memory.old range layout.now output.old).output }
     ensures promised { Promised range layout.now «record» memory.old result.answer result.«record» memory.new }
 {
-    let phase = record.phase;
-    let control = record.control;
-    let number = control.device;
-    if !record::consistent(record) {
+    let device = record.control.device;
+    if !consistent(record) {
         return refused(record, Refusal::Inconsistent);
     }
-    if memory.len() != parts::table::memory_at(number) as usize {
+    if memory.len() != memory_at(device) as usize {
         return refused(record, Refusal::WrongMemory);
     }
-    if !is_hunting(phase) {
+    if !is_hunting(record.phase) {
         return refused(record, Refusal::NotHunting);
     }
-    let answer = compiler::compile(number, range, layout, output);
-    if let Answer::Done(length) = answer {
-        let end = length as usize;
-        let loaded = loader::load(record, memory, &output[..end]);
-        let after = loaded.record;
-        return answered(after, answer);
+    let answer = compiler::compile(device, range, layout, output);
+    let Ok(length) = answer else {
+        return Reconfigured { record, answer };
+    };
+    let loaded = loader::load(record, memory, &output[..length as usize]);
+    Reconfigured {
+        record: loaded.record,
+        answer,
     }
-    answered(record, answer)
 }

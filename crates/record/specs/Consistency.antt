@@ -1,19 +1,18 @@
 -- When phase and control state are consistent, item by item in 01's order.
 -- Source: 01, "Stops and refusals", "A record is consistent if". The items that the types settle: a partial word has under
 -- four bytes, a stop number is 1 to 10, a register in data or waiting for a type 2 header is known and writable.
-use Rattle.std.specs.Prelude.{ℕ, ◌+◌, ◌%◌, Bool, true, not, cond, ◌&&◌, eqb, leb, ltb}
+use Rattle.std.specs.Prelude.{ℕ, ◌+◌, ◌%◌, Bool, true, not, cond, ◌&&◌, eqb, leb, ltb, Option, Some, None}
 use Rattle.parts.specs.Table.{length_at, count_at}
 use Rattle.registers.specs.RegisterAddresses.{is_fdri, is_mfwr}
 use Rattle.registers.specs.CommandCodes.{last_command}
 use Rattle.registers.specs.declared.Register.{Register}
-use Rattle.config.specs.declared.Current.{Current}
 use Rattle.config.specs.declared.Control.{Control}
 use Rattle.config.specs.declared.Phase.{Phase}
 
 -- "current frame under F or none"
-unfoldable pub current_fits : ℕ → Current → Bool
-current_fits d (Current.Frame n) = ltb n (count_at d)
-current_fits d Current.NoFrame = true
+unfoldable pub current_fits : ℕ → Option ℕ → Bool
+current_fits d (Some n) = ltb n (count_at d)
+current_fits d None = true
 
 -- "1 or 2 for MFWR with a frame in hand, and for FDRI the filled part of the frame under L, with filled plus left a multiple of L"
 unfoldable pub data_fits : Register → ℕ → ℕ → Control → Bool

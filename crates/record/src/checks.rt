@@ -2,62 +2,45 @@
 ghost use Rattle.std.specs.Prelude.{◌≡◌};
 ghost use Rattle.record.specs.Consistency.{current_fits, data_fits, phase_fits};
 
-use config::{Control, Current, Phase};
+use config::{Control, Phase};
 use parts::table::{count_at, length_at};
-use registers::{Register, is_fdri, is_mfwr};
+use registers::Register;
 
 // A count of words has at most 27 bits.
 const GREATEST_COUNT: u32 = 134217727;
 
-pub(crate) fn current_fits(device: u32, current: Current) -> bool
+#[tactic(auto, unfolding(crate::specs::Consistency::current_fits))]
+pub(crate) fn current_fits(device: u32, current: Option<u32>) -> bool
     ensures { result ≡ current_fits device current }
 {
-    match current {
-        Current::Frame(n) => n < count_at(device),
-        Current::NoFrame => true,
-    }
+    current.is_none_or(|frame| frame < count_at(device))
 }
 
+#[tactic(auto, unfolding(crate::specs::Consistency::data_fits, registers::specs::RegisterAddresses::address_of))]
 fn data_fits(register: Register, left: u32, filled: u32, control: Control) -> bool
     ensures { result ≡ data_fits register left filled control }
 {
-    if is_fdri(register) {
-        let length = length_at(control.device) as u64;
-        let filled = filled as u64;
-        if length <= filled {
-            return false;
+    match register {
+        Register::Fdri => {
+            let length = length_at(control.device);
+            filled < length && (filled as u64 + left as u64) % length as u64 == 0
         }
-        return (filled + left as u64) % length == 0;
+        Register::Mfwr => left <= 2 && control.flags.buffer_valid,
+        _ => true,
     }
-    if is_mfwr(register) {
-        if 2 < left {
-            return false;
-        }
-        return control.flags.buffer_valid;
-    }
-    true
 }
 
+#[tactic(auto, unfolding(crate::specs::Consistency::phase_fits))]
 pub(crate) fn phase_fits(phase: Phase, control: Control) -> bool
     ensures { result ≡ phase_fits phase control }
 {
     match phase {
         Phase::Hunting(_) => !control.flags.start_pending,
-        Phase::Header(_) => true,
         Phase::Data {
             register,
             left,
             filled,
-        } => {
-            if left < 1 {
-                return false;
-            }
-            if GREATEST_COUNT < left {
-                return false;
-            }
-            data_fits(register, left, filled, control)
-        }
-        Phase::Crc => true,
-        Phase::Stopped(_) => true,
+        } => (1..=GREATEST_COUNT).contains(&left) && data_fits(register, left, filled, control),
+        Phase::Header(_) | Phase::Crc | Phase::Stopped(_) => true,
     }
 }

@@ -1,14 +1,11 @@
 -- The record that bytes would be the image of: total, with any reading for numbers that name nothing.
 -- Source: docs/C-INTERFACE.md, "The record's image, edition 1"; each definition cites its row of the table.
-use Rattle.std.specs.Prelude.{ℕ, ◌*◌, ◌-◌, ◌/◌, ◌%◌, ◌^◌, List, cond, eqb}
+use Rattle.std.specs.Prelude.{ℕ, ◌*◌, ◌-◌, ◌/◌, ◌%◌, ◌^◌, List, cond, eqb, Option, Some, None, unwrap_or}
 use Rattle.words.specs.WordsInBytes.{word_at, words_at}
 use Rattle.registers.specs.RegisterAddresses.{register_at}
 use Rattle.registers.specs.declared.Register.{Register}
-use Rattle.registers.specs.declared.RegisterAnswer.{RegisterAnswer}
-use Rattle.config.specs.declared.Open.{Open}
 use Rattle.answers.specs.declared.Stop.{Stop}
 use Rattle.config.specs.declared.PartialWord.{PartialWord}
-use Rattle.config.specs.declared.Current.{Current}
 use Rattle.config.specs.declared.Flags.{Flags}
 use Rattle.config.specs.declared.Registers.{Registers}
 use Rattle.config.specs.declared.Control.{Control}
@@ -21,23 +18,13 @@ image_word bytes k = word_at bytes (4 * k)
 
 -- ---- words 1 to 6: the phase
 
--- the register that a type 2 header would use, if there is one
-unfoldable pub open_after : RegisterAnswer → Open
-open_after (RegisterAnswer.Writable r) = Open.After r
-open_after RegisterAnswer.NotWritable = Open.Closed
-
 -- 2, header: "the register that a type 2 header would use, plus 1, or 0 for none"
-unfoldable pub open_of : ℕ → Open
-open_of n = cond (eqb n 0) Open.Closed (open_after (register_at (n - 1)))
-
--- the register that was found, CRC where there is none
-unfoldable pub register_found : RegisterAnswer → Register
-register_found (RegisterAnswer.Writable r) = r
-register_found RegisterAnswer.NotWritable = Register.Crc
+unfoldable pub open_of : ℕ → Option Register
+open_of n = cond (eqb n 0) None (register_at (n - 1))
 
 -- 2, data: "the register", CRC for an address of none that can be written
 unfoldable pub register_of : ℕ → Register
-register_of n = register_found (register_at n)
+register_of n = unwrap_or (register_at n) Register.Crc
 
 -- 2, stopped: "the stop number", the last stop for any other number
 unfoldable pub stop_of : ℕ → Stop
@@ -75,8 +62,8 @@ partial_of number bytes = cond (eqb number 0) PartialWord.Zero bytes
 -- ---- words 7 to 23: control state
 
 -- 7: "current frame, FFFFFFFF for none"
-unfoldable pub current_of : ℕ → Current
-current_of n = cond (eqb n 0xFFFFFFFF) Current.NoFrame (Current.Frame n)
+unfoldable pub current_of : ℕ → Option ℕ
+current_of n = cond (eqb n 0xFFFFFFFF) None (Some n)
 
 -- 8: "bit 0 IDCODE accepted, 1 FLR accepted, 2 a frame in the buffer, 3 GHIGH, 4 start pending, 5 a check has passed since START (or
 -- power-on), 6 started"

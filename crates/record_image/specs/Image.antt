@@ -1,17 +1,16 @@
 -- The image of a device record: 948 bytes, 237 words of 32 bits, high byte first.
 -- Source: docs/C-INTERFACE.md, "The record's image, edition 1"; each definition cites its row of the table.
-use Rattle.std.specs.Prelude.{ℕ, ◌+◌, ◌*◌, ◌^◌, List, [], ◌∷◌, ◌++◌, Bool, cond, eqb, length}
+use Rattle.std.specs.Prelude.{ℕ, ◌+◌, ◌*◌, ◌^◌, List, [], ◌∷◌, ◌++◌, Bool, cond, eqb, length, Option, Some, None}
 use Rattle.registers.specs.RegisterAddresses.{address_of, is_fdri}
 use Rattle.answers.specs.StopsAndRefusals.{stop_number}
-use Rattle.config.specs.declared.Open.{Open}
 use Rattle.config.specs.declared.PartialWord.{PartialWord}
-use Rattle.config.specs.declared.Current.{Current}
 use Rattle.config.specs.declared.Flags.{Flags}
 use Rattle.config.specs.declared.Registers.{Registers}
 use Rattle.config.specs.declared.Control.{Control}
 use Rattle.config.specs.declared.Phase.{Phase}
 use Rattle.record.specs.declared.Record.{Record}
 use Rattle.words.specs.WordsInBytes.{bytes_of}
+use Rattle.registers.specs.declared.Register.{Register}
 
 -- ---- words 1 to 4: the phase
 
@@ -24,9 +23,9 @@ phase_number Phase.Crc = 3
 phase_number (Phase.Stopped s) = 4
 
 -- 2, header: "the register that a type 2 header would use, plus 1, or 0 for none"
-abbrev pub open_number : Open → ℕ
-open_number Open.Closed = 0
-open_number (Open.After r) = address_of r + 1
+abbrev pub open_number : Option Register → ℕ
+open_number None = 0
+open_number (Some r) = address_of r + 1
 
 -- 2: what the phase is about; "data: the register; stopped: the stop number; else 0"
 abbrev pub argument : Phase → ℕ
@@ -79,9 +78,9 @@ bytes_number (PartialWord.Three a b c) = a * 2 ^ 16 + b * 2 ^ 8 + c
 -- ---- words 7 to 23: control state
 
 -- 7: "current frame, FFFFFFFF for none"
-abbrev pub current_number : Current → ℕ
-current_number (Current.Frame n) = n
-current_number Current.NoFrame = 0xFFFFFFFF
+abbrev pub current_number : Option ℕ → ℕ
+current_number (Some n) = n
+current_number None = 0xFFFFFFFF
 
 -- a flag at its place
 abbrev pub flag_bit : Bool → ℕ → ℕ

@@ -4,9 +4,9 @@ ghost use Rattle.record_image.specs.Decode.{open_of, register_of, stop_of, pendi
 ghost use Rattle.words.specs.WordsInBytes.{words_at};
 
 use answers::Stop;
-use config::{Control, Current, Flags, Open, PartialWord, Phase, Registers};
+use config::{Control, Flags, PartialWord, Phase, Registers};
 use record::{FrameBuffer, Record};
-use registers::{Register, RegisterAnswer};
+use registers::{Register, register_at};
 use words::word_at;
 
 // Word k of an image.
@@ -18,31 +18,23 @@ fn image_word(image: &[u8], k: usize) -> u32
 }
 
 // Word 2 of a header.
-fn open_of(number: u32) -> Open
+#[tactic(auto, unfolding(crate::specs::Decode::open_of))]
+fn open_of(number: u32) -> Option<Register>
     ensures { result ≡ open_of number }
 {
-    if number == 0 {
-        return Open::Closed;
-    }
-    let found = registers::register_at(number - 1);
-    match found {
-        RegisterAnswer::Writable(register) => Open::After(register),
-        RegisterAnswer::NotWritable => Open::Closed,
-    }
+    number.checked_sub(1).and_then(register_at)
 }
 
 // Word 2 in data.
+#[tactic(auto, unfolding(crate::specs::Decode::register_of))]
 fn register_of(number: u32) -> Register
     ensures { result ≡ register_of number }
 {
-    let found = registers::register_at(number);
-    match found {
-        RegisterAnswer::Writable(register) => register,
-        RegisterAnswer::NotWritable => Register::Crc,
-    }
+    register_at(number).unwrap_or(Register::Crc)
 }
 
 // Word 2 of a stopped device.
+#[tactic(auto, unfolding(crate::specs::Decode::stop_of))]
 fn stop_of(number: u32) -> Stop
     ensures { result ≡ stop_of number }
 {
@@ -61,12 +53,11 @@ fn stop_of(number: u32) -> Stop
 }
 
 // Words 5 and 6.
+#[tactic(auto, unfolding(crate::specs::Decode::pending_of))]
 fn pending_of(count: u32, number: u32) -> PartialWord
     ensures { result ≡ pending_of count number }
 {
-    let a = (number / 65536 % 256) as u8;
-    let b = (number / 256 % 256) as u8;
-    let c = (number % 256) as u8;
+    let [_, a, b, c] = number.to_be_bytes();
     match count {
         0 => PartialWord::Zero,
         1 => PartialWord::One(c),
@@ -76,6 +67,7 @@ fn pending_of(count: u32, number: u32) -> PartialWord
 }
 
 // Words 1 to 4.
+#[tactic(auto, unfolding(crate::specs::Decode::phase_of))]
 fn phase_of(number: u32, argument: u32, left: u32, filled: u32, window: PartialWord) -> Phase
     ensures { result ≡ phase_of number argument left filled window }
 {
@@ -84,8 +76,8 @@ fn phase_of(number: u32, argument: u32, left: u32, filled: u32, window: PartialW
         1 => Phase::Header(open_of(argument)),
         2 => Phase::Data {
             register: register_of(argument),
-            left: left,
-            filled: filled,
+            left,
+            filled,
         },
         3 => Phase::Crc,
         _ => Phase::Stopped(stop_of(argument)),
@@ -93,6 +85,7 @@ fn phase_of(number: u32, argument: u32, left: u32, filled: u32, window: PartialW
 }
 
 // The partial word, which is empty while hunting.
+#[tactic(auto, unfolding(crate::specs::Decode::partial_of))]
 fn partial_of(number: u32, bytes: PartialWord) -> PartialWord
     ensures { result ≡ partial_of number bytes }
 {
@@ -104,14 +97,11 @@ fn partial_of(number: u32, bytes: PartialWord) -> PartialWord
 }
 
 // Word 7.
-fn current_of(number: u32) -> Current
+#[tactic(auto, unfolding(crate::specs::Decode::current_of))]
+fn current_of(number: u32) -> Option<u32>
     ensures { result ≡ current_of number }
 {
-    if number == 0xFFFFFFFF {
-        Current::NoFrame
-    } else {
-        Current::Frame(number)
-    }
+    (number != 0xFFFFFFFF).then_some(number)
 }
 
 // Word 8.
@@ -119,17 +109,18 @@ fn flags_of(number: u32) -> Flags
     ensures { result ≡ flags_of number }
 {
     Flags {
-        idcode_ok: number % 2 == 1,
-        flr_ok: number / 2 % 2 == 1,
-        buffer_valid: number / 4 % 2 == 1,
-        ghigh: number / 8 % 2 == 1,
-        start_pending: number / 16 % 2 == 1,
-        check_passed: number / 32 % 2 == 1,
-        started: number / 64 % 2 == 1,
+        idcode_ok: number & 1 == 1,
+        flr_ok: number >> 1 & 1 == 1,
+        buffer_valid: number >> 2 & 1 == 1,
+        ghigh: number >> 3 & 1 == 1,
+        start_pending: number >> 4 & 1 == 1,
+        check_passed: number >> 5 & 1 == 1,
+        started: number >> 6 & 1 == 1,
     }
 }
 
 // Words 9 to 23.
+#[tactic(auto, unfolding(crate::specs::Decode::registers_of))]
 fn registers_of(image: &[u8]) -> Registers
     ensures { result ≡ registers_of image.now }
 {
@@ -149,6 +140,7 @@ fn registers_of(image: &[u8]) -> Registers
 }
 
 // Words 0 and 7 to 23, around a partial word.
+#[tactic(auto, unfolding(crate::specs::Decode::control_of))]
 fn control_of(image: &[u8], partial: PartialWord) -> Control
     ensures { result ≡ control_of image.now partial }
 {
@@ -157,7 +149,7 @@ fn control_of(image: &[u8], partial: PartialWord) -> Control
         registers: registers_of(image),
         flags: flags_of(image_word(image, 8)),
         current: current_of(image_word(image, 7)),
-        partial: partial,
+        partial,
     }
 }
 
@@ -165,16 +157,11 @@ fn control_of(image: &[u8], partial: PartialWord) -> Control
 fn frame_of(image: &[u8]) -> FrameBuffer
     ensures { result ≡ words_at image.now 96 213 }
 {
-    let mut frame = [0u32; 213];
-    let mut i: usize = 0;
-    while i < 213 {
-        frame[i] = image_word(image, 24 + i);
-        i += 1;
-    }
-    frame
+    std::array::from_fn(|i| image_word(image, 24 + i))
 }
 
 // The record that bytes would be the image of.
+#[tactic(auto, unfolding(crate::specs::Decode::decoded))]
 pub fn decode(image: &[u8]) -> Record
     ensures { result ≡ decoded image.now }
 {
@@ -187,11 +174,9 @@ pub fn decode(image: &[u8]) -> Record
         image_word(image, 4),
         bytes,
     );
-    let control = control_of(image, partial_of(number, bytes));
-    let frame = frame_of(image);
     Record {
-        phase: phase,
-        control: control,
-        frame: frame,
+        phase,
+        control: control_of(image, partial_of(number, bytes)),
+        frame: frame_of(image),
     }
 }

@@ -1,11 +1,11 @@
 // Words 0 to 23 of the image: phase and control state as numbers.
-ghost use Rattle.std.specs.Prelude.{◌≡◌, ◌≤◌};
+ghost use Rattle.std.specs.Prelude.{◌≡◌};
 ghost use Rattle.record_image.specs.Image.{phase_number, open_number, argument as argument_of, words_left, words_filled};
-ghost use Rattle.record_image.specs.Image.{pending as pending_of, bytes_count, bytes_number, current_number, flag_bit, flag_bits, head_words};
+ghost use Rattle.record_image.specs.Image.{pending as pending_of, bytes_count, bytes_number, current_number, flag_bits, head_words};
 
-use answers::Stop;
-use config::{Control, Current, Flags, Open, PartialWord, Phase};
-use registers::Register;
+use answers::stop_number;
+use config::{Control, Flags, PartialWord, Phase};
+use registers::{Register, address_of};
 
 // Word 1.
 fn phase_number(phase: Phase) -> u32
@@ -21,13 +21,11 @@ fn phase_number(phase: Phase) -> u32
 }
 
 // Word 2 of a header.
-fn open_number(opened: Open) -> u32
+#[tactic(auto, using(registers::specs::Laws::AddressLookup::address_bound))]
+fn open_number(opened: Option<Register>) -> u32
     ensures { result ≡ open_number opened }
 {
-    match opened {
-        Open::Closed => 0,
-        Open::After(register) => registers::address_of(register) + 1,
-    }
+    opened.map_or(0, |register| address_of(register) + 1)
 }
 
 // Word 2.
@@ -35,15 +33,10 @@ fn argument(phase: Phase) -> u32
     ensures { result ≡ argument_of phase }
 {
     match phase {
-        Phase::Hunting(_) => 0,
         Phase::Header(opened) => open_number(opened),
-        Phase::Data {
-            register,
-            left: _,
-            filled: _,
-        } => registers::address_of(register),
-        Phase::Crc => 0,
-        Phase::Stopped(stop) => answers::stop_number(stop),
+        Phase::Data { register, .. } => address_of(register),
+        Phase::Stopped(stop) => stop_number(stop),
+        Phase::Hunting(_) | Phase::Crc => 0,
     }
 }
 
@@ -52,38 +45,23 @@ fn words_left(phase: Phase) -> u32
     ensures { result ≡ words_left phase }
 {
     match phase {
-        Phase::Hunting(_) => 0,
-        Phase::Header(_) => 0,
-        Phase::Data {
-            register: _,
-            left,
-            filled: _,
-        } => left,
-        Phase::Crc => 0,
-        Phase::Stopped(_) => 0,
+        Phase::Data { left, .. } => left,
+        _ => 0,
     }
 }
 
 // Word 4.
+#[tactic(auto, unfolding(crate::specs::Image::words_filled, registers::specs::RegisterAddresses::address_of))]
 fn words_filled(phase: Phase) -> u32
     ensures { result ≡ words_filled phase }
 {
     match phase {
-        Phase::Hunting(_) => 0,
-        Phase::Header(_) => 0,
         Phase::Data {
-            register,
-            left: _,
+            register: Register::Fdri,
             filled,
-        } => {
-            if registers::is_fdri(register) {
-                filled
-            } else {
-                0
-            }
-        }
-        Phase::Crc => 0,
-        Phase::Stopped(_) => 0,
+            ..
+        } => filled,
+        _ => 0,
     }
 }
 
@@ -93,10 +71,7 @@ fn pending(phase: Phase, partial: PartialWord) -> PartialWord
 {
     match phase {
         Phase::Hunting(window) => window,
-        Phase::Header(_) => partial,
-        Phase::Data { .. } => partial,
-        Phase::Crc => partial,
-        Phase::Stopped(_) => partial,
+        _ => partial,
     }
 }
 
@@ -116,52 +91,40 @@ fn bytes_count(bytes: PartialWord) -> u32
 fn bytes_number(bytes: PartialWord) -> u32
     ensures { result ≡ bytes_number bytes }
 {
-    match bytes {
-        PartialWord::Zero => 0,
-        PartialWord::One(a) => a as u32,
-        PartialWord::Two(a, b) => a as u32 * 256 + b as u32,
-        PartialWord::Three(a, b, c) => a as u32 * 65536 + b as u32 * 256 + c as u32,
-    }
+    u32::from_be_bytes(match bytes {
+        PartialWord::Zero => [0, 0, 0, 0],
+        PartialWord::One(a) => [0, 0, 0, a],
+        PartialWord::Two(a, b) => [0, 0, a, b],
+        PartialWord::Three(a, b, c) => [0, a, b, c],
+    })
 }
 
 // Word 7.
-fn current_number(current: Current) -> u32
+fn current_number(current: Option<u32>) -> u32
     ensures { result ≡ current_number current }
 {
-    match current {
-        Current::Frame(n) => n,
-        Current::NoFrame => 0xFFFFFFFF,
-    }
-}
-
-// A flag at its place.
-fn bit(on: bool, weight: u32) -> u32
-    ensures { (result ≡ flag_bit on weight) × (result ≤ weight) }
-{
-    if on { weight } else { 0 }
+    current.unwrap_or(0xFFFFFFFF)
 }
 
 // Word 8.
 fn flag_bits(flags: Flags) -> u32
     ensures { result ≡ flag_bits flags }
 {
-    bit(flags.idcode_ok, 1)
-        + bit(flags.flr_ok, 2)
-        + bit(flags.buffer_valid, 4)
-        + bit(flags.ghigh, 8)
-        + bit(flags.start_pending, 16)
-        + bit(flags.check_passed, 32)
-        + bit(flags.started, 64)
+    u32::from(flags.idcode_ok)
+        + u32::from(flags.flr_ok) * 2
+        + u32::from(flags.buffer_valid) * 4
+        + u32::from(flags.ghigh) * 8
+        + u32::from(flags.start_pending) * 16
+        + u32::from(flags.check_passed) * 32
+        + u32::from(flags.started) * 64
 }
 
 // Words 0 to 23.
+#[tactic(auto, unfolding(crate::specs::Image::head_words))]
 pub(crate) fn head(phase: Phase, control: Control) -> [u32; 24]
     ensures { result ≡ head_words phase control }
 {
-    let partial = control.partial;
-    let bytes = pending(phase, partial);
-    let current = control.current;
-    let flags = control.flags;
+    let bytes = pending(phase, control.partial);
     let r = control.registers;
     [
         control.device,
@@ -171,8 +134,8 @@ pub(crate) fn head(phase: Phase, control: Control) -> [u32; 24]
         words_filled(phase),
         bytes_count(bytes),
         bytes_number(bytes),
-        current_number(current),
-        flag_bits(flags),
+        current_number(control.current),
+        flag_bits(control.flags),
         r.crc,
         r.far,
         r.fdri,

@@ -1,74 +1,60 @@
-// The list of steps.
-ghost use Rattle.std.specs.Prelude.{◌≡◌, true, ◌≤◌, length};
+// The steps of a layout.
+ghost use Rattle.std.specs.Prelude.{◌≡◌, true, ◌≤◌, length, Ok};
 ghost use Rattle.parts.specs.Table.{length_at, memory_at};
-ghost use Rattle.layout.specs.StepReading.{desk_steps, step_offset};
+ghost use Rattle.layout.specs.StepReading.{desk_steps};
 ghost use Rattle.layout.specs.Layout.{desk_layout};
 ghost use Rattle.layout.specs.ReferenceMachine.{steps_applied, made_of, machine};
 ghost use Rattle.layout.specs.Laws.AcceptedLayout.{is_read};
 ghost use Rattle.layout.specs.Inner.FirstStep.{step_of, StepBytes};
 ghost use Rattle.reference.specs.Inner.StepList.{StepRoom};
 
-use crate::copy::{spread_frame, write_frames};
-use layout::FrameRange;
-use layout::step::{StepAt, read_step, step_list};
-use parts::table::length_at;
+use crate::copy::Source;
+use layout::step::{PlacedStep, read_step, step_list, step_offset};
 
-// Does one step that was read. Returns the offset that it tells.
-fn apply_step(l: usize, layout: &[u8], step: StepAt, memory: &mut [u8]) -> usize
-    requires { (l ≤ 213) × StepBytes l layout.now step × StepRoom l layout.now (length memory.old) step }
-    ensures value { result ≡ step_offset step }
-    ensures memory_after { memory.new ≡ steps_applied l (step_of l layout.now step) memory.old }
-{
-    match step {
-        StepAt::Refused { refusal: _, at } => at,
-        StepAt::FrameWrite {
-            first,
-            count,
-            body,
-            next,
-        } => {
-            write_frames(l, first, count, layout, body, memory);
-            next
-        }
-        StepAt::MultiFrameWrite {
-            count,
-            body,
-            targets,
-            next,
-        } => {
-            spread_frame(l, count, layout, body, targets, memory);
-            next
+impl Source<'_> {
+    // Does one step.
+    #[tactic(auto, unfolding(layout::specs::Inner::FirstStep::step_of, layout::specs::ReferenceMachine::step_applied, layout::specs::ReferenceMachine::steps_applied))]
+    fn step(self, memory: &mut [u8], step: PlacedStep)
+        requires { StepBytes (length_at self.device) self.layout.now (Ok step) × StepRoom (length_at self.device) self.layout.now (length memory.old) step }
+        ensures { memory.new ≡ steps_applied (length_at self.entry.device) (step_of (length_at self.entry.device) self.entry.layout.now (Ok step)) memory.old }
+    {
+        match step {
+            PlacedStep::FrameWrite {
+                first,
+                count,
+                body,
+                ..
+            } => self.frames(memory, first, count, body),
+            PlacedStep::MultiFrameWrite {
+                count,
+                body,
+                targets,
+                ..
+            } => self.spread(memory, count, body, targets),
         }
     }
-}
 
-// Does the steps of a list that was read, from an offset on.
-fn apply_steps(
-    device: u32,
-    range: FrameRange,
-    layout: &[u8],
-    count: u32,
-    start: usize,
-    memory: &mut [u8],
-)
-    requires { (is_read (desk_steps device range layout.now count start) ≡ true) × (length memory.old ≡ memory_at device) }
-    ensures { memory.new ≡ made_of (length_at device) (desk_steps device range layout.now count start) memory.old }
-{
-    let l = length_at(device) as usize;
-    let mut left: u32 = count;
-    let mut at: usize = start;
-    while 0 < left {
-        let step = read_step(device, range, layout, at);
-        at = apply_step(l, layout, step, memory);
-        left -= 1;
+    // Does the steps of a list that was read, from an offset on.
+    fn list(self, memory: &mut [u8], count: u32, start: usize)
+        requires { (is_read (desk_steps self.device self.range self.layout.now count start) ≡ true) × (length memory.old ≡ memory_at self.device) }
+        ensures { memory.new ≡ made_of (length_at self.entry.device) (desk_steps self.entry.device self.entry.range self.entry.layout.now count start) memory.old }
+    {
+        let mut at = start;
+        for _ in 0..count {
+            let Ok(step) = read_step(self.device, self.range, self.layout, at) else {
+                return;
+            };
+            self.step(memory, step);
+            at = step_offset(Ok(step));
+        }
     }
-}
 
-// Does the steps of a layout that was accepted.
-pub(crate) fn apply_list(device: u32, range: FrameRange, layout: &[u8], memory: &mut [u8])
-    requires { (device ≤ 7) × (is_read (desk_layout device range layout.now) ≡ true) × (length memory.old ≡ memory_at device) }
-    ensures { memory.new ≡ machine device layout.now memory.old }
-{
-    let list = step_list(layout);
-    apply_steps(device, range, layout, list.count, list.start, memory);
+    // Does the steps of the layout.
+    pub(crate) fn steps(self, memory: &mut [u8])
+        requires { (self.device ≤ 7) × (is_read (desk_layout self.device self.range self.layout.now) ≡ true) × (length memory.old ≡ memory_at self.device) }
+        ensures { memory.new ≡ machine self.entry.device self.entry.layout.now memory.old }
+    {
+        let list = step_list(self.layout);
+        self.list(memory, list.count, list.start);
+    }
 }

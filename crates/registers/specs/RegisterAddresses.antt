@@ -1,8 +1,7 @@
 -- The registers by address.
 -- Sources: 001, Table 1; 01, "Words and packets", the paragraph "Registers".
-use Rattle.std.specs.Prelude.{ℕ, Bool, cond, eqb}
+use Rattle.std.specs.Prelude.{ℕ, Bool, cond, eqb, Option, Some, None}
 use Rattle.registers.specs.declared.Register.{Register}
-use Rattle.registers.specs.declared.RegisterAnswer.{RegisterAnswer}
 
 -- 001, Table 1: the binary address of a register
 unfoldable pub address_of : Register → ℕ
@@ -32,16 +31,16 @@ abbrev pub is_lout : Register → Bool
 is_lout r = eqb (address_of r) 8
 
 -- 01: the register at an address, not writable where there is none or it can't be written (FDRO 3, STAT 7)
-unfoldable pub register_at : ℕ → RegisterAnswer
+unfoldable pub register_at : ℕ → Option Register
 register_at a =
-    cond (eqb a 0) (RegisterAnswer.Writable Register.Crc)
-    (cond (eqb a 1) (RegisterAnswer.Writable Register.Far)
-    (cond (eqb a 2) (RegisterAnswer.Writable Register.Fdri)
-    (cond (eqb a 4) (RegisterAnswer.Writable Register.Cmd)
-    (cond (eqb a 5) (RegisterAnswer.Writable Register.Ctl)
-    (cond (eqb a 6) (RegisterAnswer.Writable Register.Mask)
-    (cond (eqb a 8) (RegisterAnswer.Writable Register.Lout)
-    (cond (eqb a 9) (RegisterAnswer.Writable Register.Cor)
-    (cond (eqb a 10) (RegisterAnswer.Writable Register.Mfwr)
-    (cond (eqb a 11) (RegisterAnswer.Writable Register.Flr)
-    (cond (eqb a 14) (RegisterAnswer.Writable Register.Idcode) RegisterAnswer.NotWritable))))))))))
+    cond (eqb a 0) (Some Register.Crc)
+    (cond (eqb a 1) (Some Register.Far)
+    (cond (eqb a 2) (Some Register.Fdri)
+    (cond (eqb a 4) (Some Register.Cmd)
+    (cond (eqb a 5) (Some Register.Ctl)
+    (cond (eqb a 6) (Some Register.Mask)
+    (cond (eqb a 8) (Some Register.Lout)
+    (cond (eqb a 9) (Some Register.Cor)
+    (cond (eqb a 10) (Some Register.Mfwr)
+    (cond (eqb a 11) (Some Register.Flr)
+    (cond (eqb a 14) (Some Register.Idcode) None))))))))))

@@ -1,4 +1,5 @@
-// The codes of the commands that are written or acted on (001, Table 2).
+// The codes of the commands that are written or acted on (001, Table 2). Numbers, not an enum: the record's CMD register holds any
+// word, and its image shows it.
 pub const WCFG: u32 = 1;
 
 pub const MFWR: u32 = 2;

@@ -19,17 +19,11 @@ pub enum Register {
     Idcode,
 }
 
-// What stands at an address: a register that can be written, or none.
-#[derive(Clone, Copy)]
-pub enum RegisterAnswer {
-    Writable(Register),
-    NotWritable,
-}
-
 ghost use Rattle.std.specs.Prelude.{◌≡◌};
 ghost use Rattle.registers.specs.RegisterAddresses.{address_of, is_fdri, is_mfwr, is_lout, register_at};
 
 // The address of a register (001, Table 1).
+#[tactic(auto, unfolding(crate::specs::RegisterAddresses::address_of))]
 pub fn address_of(register: Register) -> u32
     ensures { result ≡ address_of register }
 {
@@ -48,41 +42,45 @@ pub fn address_of(register: Register) -> u32
     }
 }
 
+// A test for each of the three registers that the packets tell apart: definitions and edits go by each.
+#[tactic(auto, unfolding(crate::specs::RegisterAddresses::address_of))]
 pub fn is_fdri(register: Register) -> bool
     ensures { result ≡ is_fdri register }
 {
-    address_of(register) == 2
+    matches!(register, Register::Fdri)
 }
 
+#[tactic(auto, unfolding(crate::specs::RegisterAddresses::address_of))]
 pub fn is_mfwr(register: Register) -> bool
     ensures { result ≡ is_mfwr register }
 {
-    address_of(register) == 10
+    matches!(register, Register::Mfwr)
 }
 
+#[tactic(auto, unfolding(crate::specs::RegisterAddresses::address_of))]
 pub fn is_lout(register: Register) -> bool
     ensures { result ≡ is_lout register }
 {
-    address_of(register) == 8
+    matches!(register, Register::Lout)
 }
 
 // The register at an address, if there is one and it can be written.
 #[tactic(auto, unfolding(crate::specs::RegisterAddresses::register_at))]
-pub fn register_at(address: u32) -> RegisterAnswer
+pub fn register_at(address: u32) -> Option<Register>
     ensures { result ≡ register_at address }
 {
     match address {
-        0 => RegisterAnswer::Writable(Register::Crc),
-        1 => RegisterAnswer::Writable(Register::Far),
-        2 => RegisterAnswer::Writable(Register::Fdri),
-        4 => RegisterAnswer::Writable(Register::Cmd),
-        5 => RegisterAnswer::Writable(Register::Ctl),
-        6 => RegisterAnswer::Writable(Register::Mask),
-        8 => RegisterAnswer::Writable(Register::Lout),
-        9 => RegisterAnswer::Writable(Register::Cor),
-        10 => RegisterAnswer::Writable(Register::Mfwr),
-        11 => RegisterAnswer::Writable(Register::Flr),
-        14 => RegisterAnswer::Writable(Register::Idcode),
-        _ => RegisterAnswer::NotWritable,
+        0 => Some(Register::Crc),
+        1 => Some(Register::Far),
+        2 => Some(Register::Fdri),
+        4 => Some(Register::Cmd),
+        5 => Some(Register::Ctl),
+        6 => Some(Register::Mask),
+        8 => Some(Register::Lout),
+        9 => Some(Register::Cor),
+        10 => Some(Register::Mfwr),
+        11 => Some(Register::Flr),
+        14 => Some(Register::Idcode),
+        _ => None,
     }
 }

@@ -1,10 +1,9 @@
 -- What the C interface makes of a record's image: power-on, load and reconfiguration.
 -- Sources: include/seamwillow.h; docs/C-INTERFACE.md, "The record's image, edition 1".
-use Rattle.std.specs.Prelude.{ℕ, List, cond, eqb, length}
+use Rattle.std.specs.Prelude.{ℕ, List, cond, eqb, length, Err}
 use Rattle.answers.specs.StopsAndRefusals.{refusal_number}
-use Rattle.answers.specs.AnswerNumbers.{answer_number, answer_value, load_number}
+use Rattle.answers.specs.AnswerNumbers.{answer_number, answer_value, load_number, refused, Answer}
 use Rattle.answers.specs.declared.Refusal.TheVariants as Refusal
-use Rattle.answers.specs.declared.Answer.{Answer}
 use Rattle.record.specs.PowerOn.{Outcome, power_on}
 use Rattle.loader.specs.Load.{load}
 use Rattle.layout.specs.declared.FrameRange.{FrameRange}
@@ -57,4 +56,4 @@ changed_of x i =
 -- "22 and 23 as sw_load, then 24 ...; then 37, the layout's refusals and 36 as sw_compile": 22 for bytes that are no image here, all
 -- else by the reconfiguration itself
 unfoldable pub reconfigured_image : List ℕ → List ℕ → FrameRange → List ℕ → List ℕ → Changed
-reconfigured_image i m r b out = cond (accepted_image i) (changed_of (reconfigured (decoded i) m r b out) i) (kept_image (Answer.Refused Refusal.Inconsistent 0) i m out)
+reconfigured_image i m r b out = cond (accepted_image i) (changed_of (reconfigured (decoded i) m r b out) i) (kept_image (Err (refused Refusal.Inconsistent 0)) i m out)

@@ -15,11 +15,20 @@ ghost use Rattle.compiler.specs.Compiled.{compiled};
 ghost use Rattle.seamwillow.specs.NumberTold.{number_told};
 ghost use Rattle.seamwillow.specs.RecordCalls.{powered_image, loaded_image, reconfigured_image};
 
-use answers::{Refusal, answer_number, answer_value, refusal_number};
+use answers::{Refusal, answer_number, answer_value, load_number, refusal_number};
+use compiler::compile;
 use layout::FrameRange;
-use layout::step::{step_offset, step_refusal};
-use numbers::{read_next, read_refusal, read_value};
-use parts::frame::{NumberAnswer, number_refusal};
+use layout::step::{read_step, step_offset, step_refusal};
+use loader::load;
+use numbers::{read_next, read_number, read_refusal, read_value};
+use parts::frame::{address_fields, frame_address, frame_number, number_refusal};
+use parts::table::{count_at, idcode_at, length_at, memory_at, part_of, part_refusal};
+use reconfigure::reconfigure;
+use record::power_on;
+use record_image::RECORD_LENGTH;
+use record_image::decode::decode;
+use record_image::encode::{encode, matches};
+use reference::apply;
 
 // The CRC register after a word is fed for a register address.
 #[unsafe(no_mangle)]
@@ -44,11 +53,11 @@ pub extern "C" fn sw_part(
     ensures frames_after { frames.new ≡ count_at device }
     ensures memory_len_after { memory_len.new ≡ memory_at device }
 {
-    *idcode = parts::table::idcode_at(device);
-    *frame_words = parts::table::length_at(device);
-    *frames = parts::table::count_at(device);
-    *memory_len = parts::table::memory_at(device) as u64;
-    parts::table::part_refusal(parts::table::part_of(device))
+    *idcode = idcode_at(device);
+    *frame_words = length_at(device);
+    *frames = count_at(device);
+    *memory_len = memory_at(device) as u64;
+    part_refusal(part_of(device))
 }
 
 // The frame address of a frame number: 01's number is returned, the address written.
@@ -57,19 +66,18 @@ pub extern "C" fn sw_frame_address(device: u32, number: u32, address: &mut u32) 
     ensures value { result ≡ answer_number (frame_address device number) }
     ensures address_after { address.new ≡ address_at device number }
 {
-    let answer = parts::frame::frame_address(device, number);
+    let answer = frame_address(device, number);
     *address = answer_value(answer) as u32;
     answer_number(answer)
 }
 
 // The frame number that an answer tells, FFFFFFFF for none.
-fn number_told(answer: NumberAnswer) -> u32
+fn number_told(answer: Result<Option<u32>, Refusal>) -> u32
     ensures { result ≡ number_told answer }
 {
     match answer {
-        NumberAnswer::Number(n) => n,
-        NumberAnswer::NoFrame => 0xFFFFFFFF,
-        NumberAnswer::Refused(_) => 0xFFFFFFFF,
+        Ok(Some(number)) => number,
+        _ => 0xFFFFFFFF,
     }
 }
 
@@ -79,7 +87,7 @@ pub extern "C" fn sw_frame_number(device: u32, address: u32, number: &mut u32) -
     ensures value { result ≡ number_refusal (frame_number device address) }
     ensures number_after { number.new ≡ number_told (frame_number device address) }
 {
-    let answer = parts::frame::frame_number(device, address);
+    let answer = frame_number(device, address);
     *number = number_told(answer);
     number_refusal(answer)
 }
@@ -91,7 +99,7 @@ pub extern "C" fn sw_address_fields(address: u32, block: &mut u32, major: &mut u
     ensures major_after { major.new ≡ (address_fields address).major }
     ensures minor_after { minor.new ≡ (address_fields address).minor }
 {
-    let fields = parts::frame::address_fields(address);
+    let fields = address_fields(address);
     *block = fields.block;
     *major = fields.major;
     *minor = fields.minor;
@@ -105,14 +113,12 @@ pub extern "C" fn sw_power_on(device: u32, state: &mut [u8], memory: &mut [u8]) 
     ensures state_after { state.new ≡ (powered_image device state.old memory.old).image }
     ensures memory_after { memory.new ≡ (powered_image device state.old memory.old).memory }
 {
-    if state.len() != record_image::RECORD_LENGTH {
+    if state.len() != RECORD_LENGTH {
         return refusal_number(Refusal::Inconsistent);
     }
-    let on = record::power_on(device, memory);
-    let fresh = on.record;
-    let answer = on.answer;
-    record_image::encode::encode(fresh, state);
-    answers::load_number(answer)
+    let on = power_on(device, memory);
+    encode(on.record, state);
+    load_number(on.answer)
 }
 
 // Load: the record's image and the memory are changed, 01's number is returned and the bytes taken are written.
@@ -128,17 +134,15 @@ pub extern "C" fn sw_load(
     ensures memory_after { memory.new ≡ (loaded_image state.old memory.old stream.now).memory }
     ensures taken_after { taken.new ≡ (loaded_image state.old memory.old stream.now).taken }
 {
-    let record = record_image::decode::decode(state);
-    if !record_image::encode::matches(record, state) {
+    let record = decode(state);
+    if !matches(record, state) {
         *taken = 0;
         return refusal_number(Refusal::Inconsistent);
     }
-    let loaded = loader::load(record, memory, stream);
-    let after = loaded.record;
-    let answer = loaded.answer;
-    record_image::encode::encode(after, state);
+    let loaded = load(record, memory, stream);
+    encode(loaded.record, state);
     *taken = loaded.taken;
-    answers::load_number(answer)
+    load_number(loaded.answer)
 }
 
 // Checks a layout: the number of its refusal is returned, the stream's length or the refusal's offset written.
@@ -153,10 +157,7 @@ pub extern "C" fn sw_check(
     ensures value { result ≡ answer_number (check device (range first count) layout.now) }
     ensures value_after { value.new ≡ answer_value (check device (range first count) layout.now) }
 {
-    let range = FrameRange {
-        first: first,
-        count: count,
-    };
+    let range = FrameRange { first, count };
     let answer = layout::check(device, range, layout);
     *value = answer_value(answer);
     answer_number(answer)
@@ -169,7 +170,7 @@ pub extern "C" fn sw_read_number(layout: &[u8], at: usize, value: &mut u32, next
     ensures value_after { value.new ≡ read_value (number_at layout.now at) }
     ensures next_after { next.new ≡ read_next (number_at layout.now at) }
 {
-    let number = numbers::read_number(layout, at);
+    let number = read_number(layout, at);
     *value = read_value(number);
     *next = read_next(number) as u64;
     read_refusal(number)
@@ -188,11 +189,8 @@ pub extern "C" fn sw_read_step(
     ensures value { result ≡ step_refusal (desk_step device (range first count) layout.now at) }
     ensures value_after { value.new ≡ step_offset (desk_step device (range first count) layout.now at) }
 {
-    let range = FrameRange {
-        first: first,
-        count: count,
-    };
-    let step = layout::step::read_step(device, range, layout, at);
+    let range = FrameRange { first, count };
+    let step = read_step(device, range, layout, at);
     *value = step_offset(step) as u64;
     step_refusal(step)
 }
@@ -211,11 +209,8 @@ pub extern "C" fn sw_apply(
     ensures memory_after { memory.new ≡ (applied device (range first count) layout.now memory.old).memory }
     ensures value_after { value.new ≡ answer_value (applied device (range first count) layout.now memory.old).answer }
 {
-    let range = FrameRange {
-        first: first,
-        count: count,
-    };
-    let answer = reference::apply(device, range, layout, memory);
+    let range = FrameRange { first, count };
+    let answer = apply(device, range, layout, memory);
     *value = answer_value(answer);
     answer_number(answer)
 }
@@ -234,11 +229,8 @@ pub extern "C" fn sw_compile(
     ensures out_after { out.new ≡ (compiled device (range first count) layout.now out.old).output }
     ensures value_after { value.new ≡ answer_value (compiled device (range first count) layout.now out.old).answer }
 {
-    let range = FrameRange {
-        first: first,
-        count: count,
-    };
-    let answer = compiler::compile(device, range, layout, out);
+    let range = FrameRange { first, count };
+    let answer = compile(device, range, layout, out);
     *value = answer_value(answer);
     answer_number(answer)
 }
@@ -260,19 +252,14 @@ pub extern "C" fn sw_reconfigure(
     ensures out_after { out.new ≡ (reconfigured_image state.old memory.old (range first count) layout.now out.old).output }
     ensures value_after { value.new ≡ (reconfigured_image state.old memory.old (range first count) layout.now out.old).value }
 {
-    let record = record_image::decode::decode(state);
-    if !record_image::encode::matches(record, state) {
+    let record = decode(state);
+    if !matches(record, state) {
         *value = 0;
         return refusal_number(Refusal::Inconsistent);
     }
-    let range = FrameRange {
-        first: first,
-        count: count,
-    };
-    let done = reconfigure::reconfigure(record, memory, range, layout, out);
-    let changed = done.record;
-    let answer = done.answer;
-    record_image::encode::encode(changed, state);
-    *value = answer_value(answer);
-    answer_number(answer)
+    let range = FrameRange { first, count };
+    let done = reconfigure(record, memory, range, layout, out);
+    encode(done.record, state);
+    *value = answer_value(done.answer);
+    answer_number(done.answer)
 }

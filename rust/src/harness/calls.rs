@@ -1,6 +1,25 @@
 //! Functions with what each calls and where it divides, and all that one of them reaches.
 
+use std::collections::btree_map::Entry;
 use std::collections::{BTreeMap, BTreeSet};
+
+/// All that a call of one reaches, itself too, each with what `look` finds in it. `look` tells what it
+/// calls as well.
+pub fn reached<Name: Ord, Found>(
+    from: Name,
+    mut look: impl FnMut(&Name) -> (Found, Vec<Name>),
+) -> BTreeMap<Name, Found> {
+    let mut reached = BTreeMap::new();
+    let mut next = vec![from];
+    while let Some(name) = next.pop() {
+        if let Entry::Vacant(place) = reached.entry(name) {
+            let (found, calls) = look(place.key());
+            next.extend(calls);
+            place.insert(found);
+        }
+    }
+    reached
+}
 
 /// A function: the names that it calls, and its divisions as its text has them.
 #[derive(Debug)]
@@ -26,22 +45,18 @@ pub struct Functions<Division>(pub BTreeMap<String, Function<Division>>);
 impl<Division> Functions<Division> {
     /// A function and all that it calls, through others too. One that is not there could divide, so
     /// it may not be called.
-    pub fn reached(&self, from: &str) -> BTreeMap<&str, &Function<Division>> {
-        let mut reached = BTreeMap::new();
-        let mut next = vec![from];
-        while let Some(name) = next.pop() {
-            let found = self.0.get_key_value(name);
-            let (name, function) =
-                found.unwrap_or_else(|| panic!("{from} reaches {name}, whose code is not there"));
-            if reached.insert(name.as_str(), function).is_none() {
-                next.extend(function.calls.iter().map(String::as_str));
-            }
-        }
-        reached
+    pub fn reached<'a>(&'a self, from: &'a str) -> BTreeMap<&'a str, &'a Function<Division>> {
+        reached(from, |&name| {
+            let function = self.0.get(name);
+            let function = function
+                .unwrap_or_else(|| panic!("{from} reaches {name}, whose code is not there"));
+            let calls = function.calls.iter().map(String::as_str).collect();
+            (function, calls)
+        })
     }
 
     /// The divisions of a function and of all that it calls, each with the function that it is in.
-    pub fn divisions(&self, from: &str) -> Vec<(&str, &Division)> {
+    pub fn divisions<'a>(&'a self, from: &'a str) -> Vec<(&'a str, &'a Division)> {
         let reached = self.reached(from).into_iter();
         reached
             .flat_map(|(name, function)| function.divisions.iter().map(move |found| (name, found)))
@@ -51,7 +66,7 @@ impl<Division> Functions<Division> {
 
 #[cfg(test)]
 mod tests {
-    use super::{Function, Functions};
+    use super::{reached, Function, Functions};
 
     fn function(calls: &[&str], divisions: &[u32]) -> Function<u32> {
         Function {
@@ -70,6 +85,18 @@ mod tests {
             ("d", function(&["nowhere"], &[5])),
         ];
         Functions(functions.map(|(name, it)| (name.into(), it)).into())
+    }
+
+    #[test]
+    fn each_is_looked_at_once() {
+        let calls = [vec![0, 1], vec![2], vec![1], vec![4]];
+        let mut looks = Vec::new();
+        let reached = reached(0, |&name| {
+            looks.push(name);
+            (name * name, calls[name].clone())
+        });
+        assert_eq!(reached, [(0, 0), (1, 1), (2, 4)].into());
+        assert_eq!(looks, [0, 1, 2]);
     }
 
     #[test]

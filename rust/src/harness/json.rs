@@ -7,7 +7,7 @@ use std::str::Chars;
 pub enum Value {
     Null,
     Bool(bool),
-    Number(u64),
+    Number(u128),
     Text(String),
     List(Vec<Value>),
     Object(Vec<(String, Value)>),
@@ -45,12 +45,19 @@ impl Value {
 
     pub fn number(&self) -> u64 {
         match self {
-            Self::Number(number) => *number,
+            Self::Number(number) => u64::try_from(*number).expect("a number of 64 bits"),
             _ => panic!("no number: {self:?}"),
         }
     }
 
     pub fn list(&self) -> &[Self] {
+        match self {
+            Self::List(items) => items,
+            _ => panic!("no list: {self:?}"),
+        }
+    }
+
+    pub fn into_list(self) -> Vec<Self> {
         match self {
             Self::List(items) => items,
             _ => panic!("no list: {self:?}"),

@@ -1,6 +1,7 @@
 //! The proved library and its programs as the tests ask them, the two sides held against each other,
 //! and the code and documents that tests look into.
 
+pub mod body;
 pub mod calls;
 pub mod compiler_sides;
 pub mod counts;

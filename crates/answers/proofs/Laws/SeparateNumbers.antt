@@ -1,13 +1,12 @@
 -- 02, W2: "Give separate numbers"; "31 is no longer given". Every refusal has a number of its own, and no answer has 31.
 -- A number is looked up among all refusals, which gives back the refusal that has it; 31 is looked up and found at none.
-use Rattle.std.specs.Prelude.{◌≡◌, refl, List, [], ◌∷◌, cond, ℕ, eqb}
+use Rattle.std.specs.Prelude.{◌≡◌, refl, List, [], ◌∷◌, cond, ℕ, eqb, Ok, Err}
 use Rattle.std.proofs.Common.{◌∙◌, sym, ap, arith}
 use Rattle.answers.specs.StopsAndRefusals.{stop_number, refusal_number}
-use Rattle.answers.specs.AnswerNumbers.{answer_number, load_number}
+use Rattle.answers.specs.AnswerNumbers.{Answer, LoadAnswer, answer_number, load_number}
 use Rattle.answers.specs.declared.Stop.{Stop}
 use Rattle.answers.specs.declared.Refusal.{Refusal}
-use Rattle.answers.specs.declared.Answer.{Answer}
-use Rattle.answers.specs.declared.LoadAnswer.{LoadAnswer}
+use Rattle.answers.specs.declared.LoadError.{LoadError}
 
 abbrev refusals : List Refusal
 refusals =
@@ -52,8 +51,8 @@ no_refusal_31 c h =
     omega (arith, z)
 
 pub no_answer_31 : (a : Answer) → answer_number a ≡ 31 → ⊥
-no_answer_31 (Answer.Done n) h = omega (arith, h)
-no_answer_31 (Answer.Refused c told) h = no_refusal_31 c h
+no_answer_31 (Ok n) h = omega (arith, h)
+no_answer_31 (Err e) h = no_refusal_31 e.refusal h
 
 no_stop_31 : (s : Stop) → stop_number s ≡ 31 → ⊥
 no_stop_31 Stop.BadHeader h = omega (arith, h)
@@ -68,6 +67,6 @@ no_stop_31 Stop.NoCurrentFrame h = omega (arith, h)
 no_stop_31 Stop.UnknownCommand h = omega (arith, h)
 
 pub no_load_31 : (a : LoadAnswer) → load_number a ≡ 31 → ⊥
-no_load_31 LoadAnswer.Done h = omega (arith, h)
-no_load_31 (LoadAnswer.Stopped s) h = no_stop_31 s h
-no_load_31 (LoadAnswer.Refused c) h = no_refusal_31 c h
+no_load_31 (Ok u) h = omega (arith, h)
+no_load_31 (Err (LoadError.Stopped s)) h = no_stop_31 s h
+no_load_31 (Err (LoadError.Refused c)) h = no_refusal_31 c h

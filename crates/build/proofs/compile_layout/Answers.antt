@@ -3,5 +3,5 @@ use Rattle.std.proofs.Common.{sym, ℕ}
 use Rattle.std.proofs.lemmas.List.{length-replicate}
 use Rattle.build.proofs.compile_layout.Goals as goal
 
-pub slice_bounds-compile_into-end : goal.slice_bounds-compile_into-end
-slice_bounds-compile_into-end g c = sym (length-replicate {A = ℕ} 3400000 0)
+pub slice_bounds-write_stream-end : goal.slice_bounds-write_stream-end
+slice_bounds-write_stream-end g c = sym (length-replicate {A = ℕ} 3400000 0)

@@ -1,90 +1,106 @@
--- Packets written from a cursor on: the output and the cursor after them. One list after another is the two joined.
--- By the laws of packets after packets; a loop says that what is left, written from here, is what all is, written from the start.
+-- Words and packets that a writer wrote: the writer after them. One list after another is the two joined.
+-- By the laws of words after words and of packets after packets; a loop says that what is left, written from here, is what all is,
+-- written from the start.
 use Rattle.std.specs.Prelude.{◌≡◌, refl, List, [], ◌∷◌, ◌++◌, ℕ, ◌+◌, ◌*◌, ◌≤◌, length, replicate}
-use Rattle.std.proofs.Common.{◌∙◌, ap, arith, length-append}
+use Rattle.std.proofs.Common.{◌∙◌, arith, append-nil, length-append}
 use Rattle.std.proofs.lemmas.List.{length-replicate}
-use Rattle.std.proofs.Math.Seq.{length-sets}
-use Rattle.std.specs.Borrow.{MutBor}
-use denote.Triple.Both.{Both}
-use Rattle.words.specs.WordsInBytes.{bytes_of, words_from}
-use Rattle.stream.specs.StreamPackets.{Packet, packets_words}
-use Rattle.stream.specs.Laws.StreamLength.{size, sizes, sizes_append}
+use Rattle.words.specs.WordsInBytes.{bytes_of, put_words, words_from}
 use Rattle.words.proofs.Laws.WordBytes.{words_length}
-use Rattle.stream.specs.Laws.PacketsJoined.{crc_after, crc_append}
-use Rattle.compiler.specs.Inner.Emitted.{emitted, emit_append}
-use Rattle.compiler.specs.declared.packet.Cursor.{Cursor}
+use Rattle.words.proofs.Laws.WordStores.{put_append}
+use Rattle.stream.specs.StreamPackets.{Packet, crc_of, packet_words, packets_words}
+use Rattle.stream.specs.Laws.StreamLength.{size, sizes, sizes_append, packet_size, packets_size}
+use Rattle.stream.specs.Laws.PacketsJoined.{crc_after, words_append, crc_append}
+use Rattle.compiler.specs.declared.packet.Writer.{Writer}
 
-abbrev pub cursor_at : ℕ → ℕ → Cursor
-cursor_at at crc = record { at = at; crc = crc }
+-- ---- words
+
+-- the words are written, and leave a CRC
+pub record Put (w : Writer) (ws : List ℕ) (crc : ℕ) (v : Writer) : Type 0 where
+  pub same_output : v.output.ghost_name ≡ w.output.ghost_name
+  pub size : length v.output.now ≡ length w.output.now
+  pub place : v.at ≡ w.at + 4 * length ws
+  pub fed : v.crc ≡ crc
+  pub bytes : v.output.now ≡ put_words w.output.now w.at ws
+
+-- words after words
+pub put_more : {w : Writer} {ws : List ℕ} {crc : ℕ} {v : Writer} {vs : List ℕ} {end : ℕ} {u : Writer} → Put w ws crc v → Put v vs end u → Put w (ws ++ vs) end u
+put_more {w} {ws} {crc} {v} {vs} p q =
+    record {
+      same_output = q.same_output ∙ p.same_output;
+      size = q.size ∙ p.size;
+      place = omega (arith, p.place, q.place, length-append ws vs);
+      fed = q.fed;
+      bytes = q.bytes ∙ rw (p.bytes, p.place) (put_append w.output.now w.at ws vs);
+    }
+
+-- the same, where the CRC is set afterwards
+pub put_ended : {w : Writer} {ws : List ℕ} {crc : ℕ} {v : Writer} → Put w ws crc v → (end : ℕ) → Put w ws end (record v { crc = end })
+put_ended p end = record { same_output = p.same_output; size = p.size; place = p.place; fed = refl; bytes = p.bytes }
+
+-- ---- packets
 
 -- the packets have room in an output
-abbrev pub Room : List ℕ → Cursor → List Packet → Type 0
-Room out cursor ps = cursor.at + 4 * sizes ps ≤ length out
+abbrev pub Room : Writer → List Packet → Type 0
+Room w ps = w.at + 4 * sizes ps ≤ length w.output.now
 
 -- and so have the first of them
-pub front_room : (out : List ℕ) (cursor : Cursor) (ps qs : List Packet) → Room out cursor (ps ++ qs) → Room out cursor ps
-front_room out cursor ps qs h = omega (arith, sizes_append ps qs)
+pub front_room : (w : Writer) (ps qs : List Packet) → Room w (ps ++ qs) → Room w ps
+front_room w ps qs h = omega (arith, sizes_append ps qs)
 
-pub first_room : (out : List ℕ) (cursor : Cursor) (p : Packet) (ps : List Packet) → Room out cursor (p ∷ ps) → cursor.at + 4 * size p ≤ length out
+pub first_room : (w : Writer) (p : Packet) (ps : List Packet) → Room w (p ∷ ps) → Room w (p ∷ [])
 unfolding sizes
-first_room out cursor p ps h = omega arith
+first_room w p ps h = omega arith
 
--- the packets are written from a cursor on; the output and the cursor after them
-pub record Written (out : List ℕ) (cursor : Cursor) (ps : List Packet) (after : List ℕ) (end : Cursor) : Type 0 where
-  pub place : end.at ≡ cursor.at + 4 * sizes ps
-  pub crc : end.crc ≡ crc_after cursor.crc ps
-  pub bytes : after ≡ emitted out cursor.at cursor.crc ps
+pub frames_room : (w : Writer) (n zeros : ℕ) (xs : List ℕ) → Room w (Packet.FrameData (words_from n xs ++ replicate zeros 0) ∷ []) → w.at + 4 * (3 + n + zeros) ≤ length w.output.now
+unfolding sizes size
+frames_room w n zeros xs h = omega (arith, length-append (words_from n xs) (replicate {A = ℕ} zeros 0), length-replicate {A = ℕ} zeros 0, words_length n xs)
 
--- the same of an output that is lent
-abbrev pub Writes : Both (MutBor (List ℕ)) (MutBor (List ℕ)) → Cursor → List Packet → Cursor → Type 0
-Writes output cursor ps end = Written output.entry.now cursor ps output.exit.now end
+-- the packets are written
+pub record Written (w : Writer) (ps : List Packet) (v : Writer) : Type 0 where
+  pub same_output : v.output.ghost_name ≡ w.output.ghost_name
+  pub size : length v.output.now ≡ length w.output.now
+  pub place : v.at ≡ w.at + 4 * sizes ps
+  pub crc : v.crc ≡ crc_after w.crc ps
+  pub bytes : v.output.now ≡ put_words w.output.now w.at (packets_words w.crc ps)
 
-module _ {out : List ℕ} {cursor : Cursor} {ps : List Packet} {after : List ℕ} {end : Cursor} (w : Written out cursor ps after end) where
-  pub written_length : length after ≡ length out
-  written_length = ap length w.bytes ∙ length-sets out cursor.at (bytes_of (packets_words cursor.crc ps))
-
+module _ {w : Writer} {ps : List Packet} {v : Writer} (p : Written w ps v) where
   -- packets after packets
-  pub joined : {qs : List Packet} {last : List ℕ} {stop : Cursor} → Written after end qs last stop → Written out cursor (ps ++ qs) last stop
-  joined {qs = qs} v =
+  pub joined : {qs : List Packet} {u : Writer} → Written v qs u → Written w (ps ++ qs) u
+  joined {qs = qs} q =
       record {
-        place = omega (arith, w.place, v.place, sizes_append ps qs);
-        crc = v.crc ∙ rw w.crc (crc_append cursor.crc ps qs);
-        bytes = v.bytes ∙ rw (w.bytes, w.place, w.crc) (emit_append out cursor.at cursor.crc ps qs);
+        same_output = q.same_output ∙ p.same_output;
+        size = q.size ∙ p.size;
+        place = omega (arith, p.place, q.place, sizes_append ps qs);
+        crc = q.crc ∙ rw p.crc (crc_append w.crc ps qs);
+        bytes = q.bytes ∙ rw (p.bytes, p.place, p.crc, words_append w.crc ps qs, ← packets_size w.crc ps) (put_append w.output.now w.at (packets_words w.crc ps) (packets_words (crc_after w.crc ps) qs));
       }
 
   -- and there is room for them
-  pub joined_room : (qs : List Packet) → Room out cursor (ps ++ qs) → Room after end qs
-  joined_room qs h = omega (arith, w.place, written_length, sizes_append ps qs)
+  pub joined_room : (qs : List Packet) → Room w (ps ++ qs) → Room v qs
+  joined_room qs h = omega (arith, p.place, p.size, sizes_append ps qs)
 
-  pub middle_room : (qs rs : List Packet) → Room out cursor (ps ++ (qs ++ rs)) → Room after end qs
-  middle_room qs rs h = front_room after end qs rs (joined_room (qs ++ rs) h)
+  pub middle_room : (qs rs : List Packet) → Room w (ps ++ (qs ++ rs)) → Room v qs
+  middle_room qs rs h = front_room v qs rs (joined_room (qs ++ rs) h)
 
-  pub next_room : (q : Packet) (qs : List Packet) → Room out cursor (ps ++ q ∷ qs) → end.at + 4 * size q ≤ length after
-  next_room q qs h = first_room after end q qs (joined_room (q ∷ qs) h)
+  pub next_room : (q : Packet) (qs : List Packet) → Room w (ps ++ q ∷ qs) → Room v (q ∷ [])
+  next_room q qs h = first_room v q qs (joined_room (q ∷ qs) h)
 
-pub nothing : (out : List ℕ) (cursor : Cursor) → Written out cursor [] out cursor
+pub nothing : (w : Writer) → Written w [] w
 unfolding sizes crc_after packets_words bytes_of
-nothing out cursor = record { place = omega arith; crc = refl; bytes = refl }
+nothing w = record { same_output = refl; size = refl; place = omega arith; crc = refl; bytes = refl }
 
--- one packet, as the functions that write one say it
-pub once : {out : List ℕ} {cursor : Cursor} {p : Packet} {after : List ℕ} {end : Cursor}
-    → (end.at ≡ cursor.at + 4 * size p) × ((end.crc ≡ crc_after cursor.crc (p ∷ [])) × (after ≡ emitted out cursor.at cursor.crc (p ∷ [])))
-    → Written out cursor (p ∷ []) after end
-unfolding sizes
-once e = record { place = omega (arith, e.0); crc = e.1.0; bytes = e.1.1 }
-
--- frames, as the function that writes them says it
-pub frames_size : (n zeros : ℕ) (xs : List ℕ) → size (Packet.FrameData (words_from n xs ++ replicate zeros 0)) ≡ 3 + n + zeros
-unfolding size
-frames_size n _ xs = simp (length-append, length-replicate) (omega (arith, words_length n xs))
-
-pub frames_once : {out : List ℕ} {cursor : Cursor} {after : List ℕ} {end : Cursor} (n zeros : ℕ) (xs : List ℕ)
-    → (end.at ≡ cursor.at + 4 * (3 + n + zeros))
-    × ((end.crc ≡ crc_after cursor.crc (Packet.FrameData (words_from n xs ++ replicate zeros 0) ∷ []))
-    × (after ≡ emitted out cursor.at cursor.crc (Packet.FrameData (words_from n xs ++ replicate zeros 0) ∷ [])))
-    → Written out cursor (Packet.FrameData (words_from n xs ++ replicate zeros 0) ∷ []) after end
-frames_once n zeros xs e = once (rw (frames_size n zeros xs) e.0, e.1)
+-- one packet, by its words
+pub once : {w : Writer} (p : Packet) {v : Writer} → Put w (packet_words w.crc p) (crc_of w.crc p) v → Written w (p ∷ []) v
+unfolding sizes crc_after packets_words
+once {w = w} p e =
+    record {
+      same_output = e.same_output;
+      size = e.size;
+      place = omega (arith, e.place, packet_size w.crc p);
+      crc = e.fed;
+      bytes = rw (append-nil (packet_words w.crc p)) e.bytes;
+    }
 
 -- what is left, written from here, is what all is, written from the start
-abbrev pub Remains : List ℕ → Cursor → List Packet → List ℕ → Cursor → List Packet → Type 0
-Remains out cursor ps now end qs = (after : List ℕ) (stop : Cursor) → Written now end qs after stop → Written out cursor ps after stop
+abbrev pub Remains : Writer → List Packet → Writer → List Packet → Type 0
+Remains w ps now qs = (v : Writer) → Written now qs v → Written w ps v

@@ -1,6 +1,6 @@
 -- No word and no byte changes the device number, or clears started, buffer_valid, idcode_ok or flr_ok.
 -- By the cases of each definition: every transition leaves the device number and either leaves the four flags or sets one of them.
-use Rattle.std.specs.Prelude.{◌≡◌, refl, Bool, true, cond, ◌||◌, ℕ, ◌+◌, eqb, leb, ltb}
+use Rattle.std.specs.Prelude.{◌≡◌, refl, Bool, true, cond, ◌||◌, ℕ, ◌+◌, eqb, leb, ltb, Option, Some, None}
 use Rattle.std.proofs.Common.{◌∙◌, ap}
 use Rattle.parts.specs.Laws.Cases.{either}
 use Rattle.parts.specs.Table.{idcode_at, length_at}
@@ -12,11 +12,8 @@ use Rattle.config.specs.Commands.{signalled, acted}
 use Rattle.config.specs.DataWords.{checked, far_word, cmd_word, frame_stored, fdri_word, mfwr_stored, mfwr_word, idcode_word, flr_word, data_word, word}
 use Rattle.words.specs.WordsInBytes.{word_of}
 use Rattle.config.specs.StreamBytes.{gathered, byte}
-use Rattle.registers.specs.declared.RegisterAnswer.{RegisterAnswer}
 use Rattle.registers.specs.declared.Register.{Register}
-use Rattle.config.specs.declared.Open.{Open}
 use Rattle.config.specs.declared.PacketHeader.{PacketHeader}
-use Rattle.config.specs.declared.Current.{Current}
 use Rattle.config.specs.declared.PartialWord.{PartialWord}
 use Rattle.config.specs.declared.Flags.{Flags}
 use Rattle.config.specs.declared.Control.{Control}
@@ -93,10 +90,10 @@ module _ (c : Control) where
   unfolding begin
   begin_plain r n = either Plain (ready r c) (λ h. either Plain (counted r (length_at c.device) n) (λ h. (refl, refl)) (λ h. (refl, refl))) (λ h. (refl, refl))
 
-  one_plain : (o : RegisterAnswer) (n : ℕ) → Plain (type_one_write o n c)
+  one_plain : (o : Option Register) (n : ℕ) → Plain (type_one_write o n c)
   unfolding type_one_write
-  one_plain RegisterAnswer.NotWritable n = (refl, refl)
-  one_plain (RegisterAnswer.Writable r) n = either Plain (eqb n 0) (λ h. (refl, refl)) (λ h. begin_plain r n)
+  one_plain None n = (refl, refl)
+  one_plain (Some r) n = either Plain (eqb n 0) (λ h. (refl, refl)) (λ h. begin_plain r n)
 
   obeyed_plain : (k : PacketHeader) → Plain (obeyed k c)
   unfolding obeyed
@@ -106,10 +103,10 @@ module _ (c : Control) where
   obeyed_plain (PacketHeader.Write a n) = one_plain (register_at a) n
   obeyed_plain (PacketHeader.LongWrite r n) = either Plain (eqb n 0) (λ h. (refl, refl)) (λ h. begin_plain r n)
 
-  pub header_plain : (o : Open) (w : ℕ) → Plain (header_word o c w)
+  pub header_plain : (o : Option Register) (w : ℕ) → Plain (header_word o c w)
   header_plain o w = obeyed_plain (packet o w)
 
-  pub header_keeps : (o : Open) (w : ℕ) → StaysSet c (header_word o c w).control
+  pub header_keeps : (o : Option Register) (w : ℕ) → StaysSet c (header_word o c w).control
   header_keeps o w =
       let e = (header_plain o w).0 in
       record { device = ap (λ (k : Control). k.device) e; flags = rw (ap (λ (k : Control). k.flags) e) (grown_refl c.flags) }
@@ -118,10 +115,10 @@ module _ (c : Control) where
   unfolding checked
   crc_keeps v p = either Keeping (eqb v 0) (λ h. record { device = refl; flags = raised_grown Register.Crc c.flags }) (λ h. stays_refl c)
 
-  stored_keeps : (n : Current) (left filled w : ℕ) → Keeping (frame_stored n left filled c w)
+  stored_keeps : (n : Option ℕ) (left filled w : ℕ) → Keeping (frame_stored n left filled c w)
   unfolding frame_stored
-  stored_keeps (Current.Frame n) left filled w = stays_refl c
-  stored_keeps Current.NoFrame left filled w = stays_refl c
+  stored_keeps (Some n) left filled w = stays_refl c
+  stored_keeps None left filled w = stays_refl c
 
   fdri_keeps : (left filled w : ℕ) → Keeping (fdri_word left filled c w)
   unfolding fdri_word
@@ -129,10 +126,10 @@ module _ (c : Control) where
       either Keeping (leb left 1) (λ h. record { device = refl; flags = raised_grown Register.Fdri c.flags })
       (λ h. either Keeping (ltb (filled + 1) (length_at c.device)) (λ h. stays_refl c) (λ h. stored_keeps c.current left filled w))
 
-  second_keeps : (n : Current) (w : ℕ) → Keeping (mfwr_stored n c w)
+  second_keeps : (n : Option ℕ) (w : ℕ) → Keeping (mfwr_stored n c w)
   unfolding mfwr_stored
-  second_keeps (Current.Frame n) w = stays_refl c
-  second_keeps Current.NoFrame w = stays_refl c
+  second_keeps (Some n) w = stays_refl c
+  second_keeps None w = stays_refl c
 
   pub data_keeps : (r : Register) (left filled w : ℕ) → StaysSet c (data_word r left filled c w).control
   unfolding data_word far_word cmd_word mfwr_word flr_word idcode_word

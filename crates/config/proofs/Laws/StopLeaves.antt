@@ -1,6 +1,6 @@
 -- A stop leaves the control state as it was, with an emptied partial word; only at stop 8 the CRC register has the word fed.
 -- By the cases of each definition: a transition either goes on or is a stop over the state that it is to leave.
-use Rattle.std.specs.Prelude.{◌≡◌, false, ℕ, ◌+◌, eqb, leb, ltb}
+use Rattle.std.specs.Prelude.{◌≡◌, false, ℕ, ◌+◌, eqb, leb, ltb, Option, Some, None}
 use Rattle.std.proofs.Common.{◌∙◌, sym, ap}
 use Rattle.std.proofs.Math.Path.{refl}
 use Rattle.std.proofs.lemmas.Bool.{false≢true}
@@ -17,10 +17,8 @@ use Rattle.config.specs.Commands.{command_phase, acted}
 use Rattle.config.specs.DataWords.{ended, onward, checked, crc_word, far_word, cmd_word, frame_stored, fdri_word, mfwr_stored, mfwr_word, idcode_word, flr_word, data_word, word}
 use Rattle.words.specs.WordsInBytes.{word_of}
 use Rattle.config.specs.StreamBytes.{is_sync, hunted, gathered, byte}
-use Rattle.registers.specs.declared.RegisterAnswer.{RegisterAnswer}
 use Rattle.registers.specs.declared.Register.{Register}
 use Rattle.config.specs.declared.PacketHeader.{PacketHeader}
-use Rattle.config.specs.declared.Current.{Current}
 use Rattle.config.specs.declared.PartialWord.{PartialWord}
 use Rattle.config.specs.declared.Control.{Control}
 use Rattle.config.specs.declared.Phase.{Phase}
@@ -92,10 +90,10 @@ module _ (c : Control) (w : ℕ) where
       (λ h. either Stopping (counted r (length_at c.device) n) (λ h. goes _ _ _ refl) (λ h. stops Stop.WrongCount))
       (λ h. stops Stop.NotReady)
 
-  one_stops : (o : RegisterAnswer) (n : ℕ) → Stopping (type_one_write o n c)
+  one_stops : (o : Option Register) (n : ℕ) → Stopping (type_one_write o n c)
   unfolding type_one_write
-  one_stops RegisterAnswer.NotWritable n = stops Stop.BadRegister
-  one_stops (RegisterAnswer.Writable r) n = either Stopping (eqb n 0) (λ h. goes _ _ _ refl) (λ h. begin_stops r n)
+  one_stops None n = stops Stop.BadRegister
+  one_stops (Some r) n = either Stopping (eqb n 0) (λ h. goes _ _ _ refl) (λ h. begin_stops r n)
 
   obeyed_stops : (k : PacketHeader) → Stopping (obeyed k c)
   unfolding obeyed
@@ -113,10 +111,10 @@ module _ (c : Control) (w : ℕ) where
   unfolding acted
   acted_stops k p d g = goes (command_phase k p) _ _ (after_runs k p g)
 
-  stored_stops : (n : Current) (left filled : ℕ) → Stopping (frame_stored n left filled c w)
+  stored_stops : (n : Option ℕ) (left filled : ℕ) → Stopping (frame_stored n left filled c w)
   unfolding frame_stored
-  stored_stops (Current.Frame n) left filled = goes _ _ _ refl
-  stored_stops Current.NoFrame left filled = stops Stop.NoCurrentFrame
+  stored_stops (Some n) left filled = goes _ _ _ refl
+  stored_stops None left filled = stops Stop.NoCurrentFrame
 
   fdri_stops : (left filled : ℕ) → Stopping (fdri_word left filled c w)
   unfolding fdri_word
@@ -124,10 +122,10 @@ module _ (c : Control) (w : ℕ) where
       either Stopping (leb left 1) (λ h. goes _ _ _ (ended_runs Register.Fdri))
       (λ h. either Stopping (ltb (filled + 1) (length_at c.device)) (λ h. goes _ _ _ refl) (λ h. stored_stops c.current left filled))
 
-  second_stops : (n : Current) → Stopping (mfwr_stored n c w)
+  second_stops : (n : Option ℕ) → Stopping (mfwr_stored n c w)
   unfolding mfwr_stored
-  second_stops (Current.Frame n) = goes _ _ _ (ended_runs Register.Mfwr)
-  second_stops Current.NoFrame = stops Stop.NoCurrentFrame
+  second_stops (Some n) = goes _ _ _ (ended_runs Register.Mfwr)
+  second_stops None = stops Stop.NoCurrentFrame
 
   pub data_stops : (r : Register) (left filled : ℕ) → Stopping (data_word r left filled c w)
   unfolding data_word far_word cmd_word mfwr_word flr_word idcode_word

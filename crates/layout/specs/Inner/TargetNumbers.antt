@@ -1,22 +1,21 @@
 -- Targets as numbers one after the other, as the code reads them again: those of an accepted step, each with room in the memory.
 -- By induction over the targets, each with its view.
-use Rattle.std.specs.Prelude.{◌≡◌, refl, Bool}
+use Rattle.std.specs.Prelude.{◌≡◌, refl, Bool, Ok, Err}
 use Rattle.std.proofs.Common.{◌∙◌, ap, arith}
 use Rattle.std.proofs.Math.Path.{subst}
 use Prim.Native.Nat.{ℕ, zero, suc, ◌+◌, ◌-◌, ◌*◌, ◌≤◌, ◌<◌}
 use mathlib.Core.List.{List, [], ◌∷◌}
 use Rattle.parts.specs.Laws.FramePlacing.{frame_end}
 use Rattle.answers.specs.declared.Refusal.{Refusal}
-use Rattle.numbers.specs.Number.{number_at}
-use Rattle.numbers.specs.declared.Number.{Number}
+use Rattle.numbers.specs.Number.{NumberRead, read, number_at}
 use Rattle.layout.specs.Step.{Read, listed}
 use Rattle.layout.specs.StepReading.{targets_at}
 use Rattle.layout.specs.Laws.StepViews.{target_view}
 
 -- a number before those that `go` reads from the next offset on
-unfoldable pub and_number : Number → (ℕ → List ℕ) → List ℕ
-and_number (Number.Value v next) go = v ∷ go next
-and_number (Number.Refused c) go = []
+unfoldable pub and_number : NumberRead → (ℕ → List ℕ) → List ℕ
+and_number (Ok v) go = v.value ∷ go v.next
+and_number (Err c) go = []
 
 -- k numbers from an offset on, up to the first that is none
 unfoldable pub numbers_at : List ℕ → ℕ → ℕ → List ℕ
@@ -37,11 +36,11 @@ some : (b : List ℕ) (k at : ℕ) → 0 < k → numbers_at b k at ≡ and_numbe
 unfolding numbers_at
 some b k at h = let e : k ≡ suc (k - 1) = omega arith in ap (λ (j : ℕ). numbers_at b j at) e
 
-pub numbers_value : (b : List ℕ) (k at v next : ℕ) → 0 < k → number_at b at ≡ Number.Value v next → numbers_at b k at ≡ v ∷ numbers_at b (k - 1) next
+pub numbers_value : (b : List ℕ) (k at v next : ℕ) → 0 < k → number_at b at ≡ Ok (read v next) → numbers_at b k at ≡ v ∷ numbers_at b (k - 1) next
 unfolding and_number
 numbers_value b k at v next h e = some b k at h ∙ rw e
 
-pub numbers_refused : (b : List ℕ) (k at : ℕ) (c : Refusal) → 0 < k → number_at b at ≡ Number.Refused c → numbers_at b k at ≡ []
+pub numbers_refused : (b : List ℕ) (k at : ℕ) (c : Refusal) → 0 < k → number_at b at ≡ Err c → numbers_at b k at ≡ []
 unfolding and_number
 numbers_refused b k at c h e = some b k at h ∙ rw e
 

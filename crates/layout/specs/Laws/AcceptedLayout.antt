@@ -1,15 +1,12 @@
 -- What an accepted check tells: the device has a part, the layout was read, its step count stands at offset 2.
 -- The layout's edition and device are numbers under 128, of one byte each; a reading for the whole part gives the same steps.
-use Rattle.std.specs.Prelude.{◌≡◌, refl, ℕ, ◌+◌, ◌*◌, ◌≤◌, ◌<◌, List, Bool, true, false, ltb}
+use Rattle.std.specs.Prelude.{◌≡◌, refl, ℕ, ◌+◌, ◌*◌, ◌≤◌, ◌<◌, List, Bool, true, false, ltb, Result, Ok, Err}
 use Rattle.std.proofs.Common.{◌∙◌, sym, subst, arith, lt-ltb, le-leb, ltb-true, ltb-false}
 use Rattle.parts.specs.Table.{part_of, length_at, count_at}
 use Rattle.parts.specs.declared.table.Part.{Part}
-use Rattle.parts.specs.declared.table.PartAnswer.{PartAnswer}
 use Rattle.answers.specs.declared.Refusal.{Refusal}
-use Rattle.answers.specs.declared.Answer.{Answer}
-use Rattle.numbers.specs.Number.{number_at}
+use Rattle.numbers.specs.Number.{read, number_at}
 use Rattle.numbers.specs.Laws.ShortestForm.{number_short}
-use Rattle.numbers.specs.declared.Number.{Number}
 use Rattle.parts.specs.Laws.Cases.{either}
 use Rattle.layout.specs.Ownership.{range, owns}
 use Rattle.layout.specs.Step.{Step, Reading, Read}
@@ -19,6 +16,7 @@ use Rattle.layout.specs.ReferenceMachine.{steps_applied, made_of, machine}
 use Rattle.layout.specs.Laws.LayoutViews.{layout_view}
 use Rattle.layout.specs.Laws.WiderRange.{narrower}
 use Rattle.layout.specs.declared.FrameRange.{FrameRange}
+use Rattle.answers.specs.AnswerNumbers.{Answer}
 
 -- something was read
 unfoldable pub is_read : {A : Type 0} → Reading A → Bool
@@ -29,7 +27,7 @@ is_read (Reading.Refused c at) = false
 record Counted (l f d : ℕ) (own : ℕ → Bool) (b : List ℕ) : Type 0 where
   number : ℕ
   first : ℕ
-  count_read_lem : number_at b 2 ≡ Number.Value number first
+  count_read_lem : number_at b 2 ≡ Ok (read number first)
   all_read : steps_at l f own b number first ≡ layout_read l f own b d
 
 counted : (l f d : ℕ) (own : ℕ → Bool) (b : List ℕ) → d ≤ 7 → is_read (layout_read l f own b d) ≡ true → Counted l f d own b
@@ -62,17 +60,17 @@ pub record Taken (d n : ℕ) (r : FrameRange) (b : List ℕ) : Type 0 where
   pub size : n ≡ 4 * stream_word_count (length_at d) steps
 
 abbrev Accepts : ℕ → FrameRange → List ℕ → Answer → Type 0
-Accepts d r b (Answer.Done n) = Taken d n r b
-Accepts d r b (Answer.Refused c at) = Unit {0}
+Accepts d r b (Ok n) = Taken d n r b
+Accepts d r b (Err e) = Unit {0}
 
 -- a device number that names a part is at most 7
-known_device : (d : ℕ) (p : Part) → part_of d ≡ PartAnswer.Known p → d ≤ 7
+known_device : (d : ℕ) (p : Part) → part_of d ≡ Ok p → d ≤ 7
 unfolding part_of
 known_device d p e = go (ltb d 8) refl
   where
     go : (t : Bool) → ltb d 8 ≡ t → d ≤ 7
     go true h = let z = ltb-true d 8 h in omega arith
-    go false h = let none : PartAnswer.Refused Refusal.UnknownDevice ≡ PartAnswer.Known p = simp h at e in let z : ◌≡◌ {A = ℕ} 0 1 = cc in absurd (omega arith)
+    go false h = let none : Err Refusal.UnknownDevice ≡ Ok p = simp h at e in let z : ◌≡◌ {A = ℕ} 0 1 = cc in absurd (omega arith)
 
 read_accepts : (d : ℕ) (r : FrameRange) (b : List ℕ) → d ≤ 7 → r.first + r.count ≤ count_at d
     → (x : Reading (List Step)) → desk_layout d r b ≡ x → Accepts d r b (check_answer (length_at d) x)
@@ -80,13 +78,13 @@ unfolding check_answer
 read_accepts d r b h inside (Reading.Read ss next) k = record { known = h; inside = inside; steps = ss; next = next; was_read = k; size = refl }
 read_accepts d r b h inside (Reading.Refused c at) k = tt
 
-check_accepts : (d : ℕ) (r : FrameRange) (b : List ℕ) (q : PartAnswer) → part_of d ≡ q → Accepts d r b (check_for q d r (desk_layout d r b))
+check_accepts : (d : ℕ) (r : FrameRange) (b : List ℕ) (q : Result Part Refusal) → part_of d ≡ q → Accepts d r b (check_for q d r (desk_layout d r b))
 unfolding check_for
-check_accepts d r b (PartAnswer.Known p) e =
+check_accepts d r b (Ok p) e =
     either (Accepts d r b) (ltb (count_at d) (r.first + r.count)) (λ _. tt) (λ inside. read_accepts d r b (known_device d p e) (ltb-false _ _ inside) _ refl)
-check_accepts d r b (PartAnswer.Refused c) e = tt
+check_accepts d r b (Err c) e = tt
 
-pub accepted : (d n : ℕ) (r : FrameRange) (b : List ℕ) → check d r b ≡ Answer.Done n → Taken d n r b
+pub accepted : (d n : ℕ) (r : FrameRange) (b : List ℕ) → check d r b ≡ Ok n → Taken d n r b
 accepted d n r b e = subst (Accepts d r b) e (check_accepts d r b (part_of d) refl)
 
 -- ---- the reference machine on an accepted layout

@@ -1,6 +1,6 @@
 -- A layout's steps have one coding: the bytes of an accepted layout are the code of its steps, and reading that code gives the steps.
 -- By induction over steps and targets, over the bytes from an offset on: each number, frame and target is followed by the rest.
-use Rattle.std.specs.Prelude.{◌≡◌, refl, Bool, take}
+use Rattle.std.specs.Prelude.{◌≡◌, refl, Bool, take, Ok}
 use Rattle.std.proofs.Common.{◌∙◌, add-zero, mul-zero, mul-suc, add_comm, arith, lit<, length-append, length-drop, drop_of_length-le, drop_at}
 use Rattle.std.proofs.Math.Path.{sym, ap, subst}
 use Prim.Native.Nat.{ℕ, zero, suc, ◌+◌, ◌*◌, ◌^◌, ◌≤◌, ◌<◌}
@@ -9,8 +9,7 @@ use mathlib.Core.List.{List, [], ◌∷◌, ◌++◌, append-nil, append_assoc, 
 use Rattle.std.proofs.Math.ListN.{length, drop, take-append-drop}
 use Rattle.std.proofs.Math.Seq.{take_at, drop-drop, drop-append_seam}
 use Rattle.words.specs.Laws.ByteLists.{AreBytes}
-use Rattle.numbers.specs.Number.{number_at}
-use Rattle.numbers.specs.declared.Number.TheVariants as Number
+use Rattle.numbers.specs.Number.{read, number_at}
 use Rattle.numbers.specs.Laws.ShortestForm.{code, read_code, number_spans, code_read}
 use Rattle.layout.specs.Step.{Step, FrameWrite, MultiFrameWrite, Read, frames}
 use Rattle.layout.specs.StepReading.{targets_at, steps_at}
@@ -136,7 +135,7 @@ module _ (b : List ℕ) where
   reaches : (at : ℕ) (x rest : List ℕ) → at ≤ length b → drop at b ≡ x ++ rest → at + length x ≤ length b
   reaches at x rest h e = omega (arith, length-drop at b, ap length e, length-append x rest)
 
-  code_reads : (n at : ℕ) (rest : List ℕ) → n < 2 ^ 32 → drop at b ≡ code n ++ rest → number_at b at ≡ Number.Value n (at + length (code n))
+  code_reads : (n at : ℕ) (rest : List ℕ) → n < 2 ^ 32 → drop at b ≡ code n ++ rest → number_at b at ≡ Ok (read n (at + length (code n)))
   code_reads n at rest h e = rw e (read_code n at rest h)
 
 module _ (l f : ℕ) (own : ℕ → Bool) (b : List ℕ) (small : f < 2 ^ 32) where

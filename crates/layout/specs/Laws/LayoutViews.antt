@@ -1,17 +1,16 @@
 -- What a list of steps, and a whole layout, that was read tells of the bytes, and that this is enough for the reading.
 -- The same cases as for one step: a view of each outcome, none of a refusal, and back by computing with what the view tells.
-use Rattle.std.specs.Prelude.{◌≡◌, ℕ, suc, ◌*◌, ◌≤◌, List, ◌∷◌, Bool, eqb, ltb, length, take, drop}
+use Rattle.std.specs.Prelude.{◌≡◌, ℕ, suc, ◌*◌, ◌≤◌, List, ◌∷◌, Bool, eqb, ltb, length, take, drop, Ok, Err}
 use Rattle.std.proofs.Math.Path.{refl, subst}
 use borrow.Author.Tests.{ltb-false, eqb-true, le-ltb, eq-eqb}
-use Rattle.numbers.specs.Number.{number_at}
-use Rattle.numbers.specs.declared.Number.{Number}
+use Rattle.numbers.specs.Number.{NumberRead, read, number_at}
 use Rattle.parts.specs.Laws.Cases.{either}
 use Rattle.layout.specs.Step.{Step, FrameWrite, MultiFrameWrite, Reading, Read, before, listed, frames}
-use Rattle.layout.specs.StepReading.{step_at, and_step, steps_at}
+use Rattle.layout.specs.StepReading.{StepRead, step_at, and_step, steps_at}
 use Rattle.layout.specs.Layout.{most_steps, end_read, count_read, device_read, edition_read, layout_read}
 use Rattle.layout.specs.Laws.StepViews.{WriteView, MultiView, write_view, multi_view}
 use Rattle.layout.specs.Laws.ViewConverse.{write_reads, multi_reads}
-use Rattle.layout.specs.declared.step.StepAt.{StepAt}
+use Rattle.layout.specs.declared.step.PlacedStep.{PlacedStep}
 
 module _ (l f : ℕ) (own : ℕ → Bool) (b : List ℕ) where
   -- ---- a list of steps
@@ -39,13 +38,13 @@ module _ (l f : ℕ) (own : ℕ → Bool) (b : List ℕ) where
   multi_before n at k body targets after v (Reading.Read ss next) e = FirstStep.multi k body targets after ss v refl e
   multi_before n at k body targets after v (Reading.Refused c offset) e = tt
 
-  steps_view : (n at : ℕ) (s : StepAt) → step_at l f own b at ≡ s → StepsView n at (and_step l f own b s (λ next. steps_at l f own b n next))
+  steps_view : (n at : ℕ) (s : StepRead) → step_at l f own b at ≡ s → StepsView n at (and_step l f own b s (λ next. steps_at l f own b n next))
   unfolding and_step listed
-  steps_view n at (StepAt.FrameWrite first k body after) e = written_before n at first k body after (write_view l f own b at first k body after e) _ refl
-  steps_view n at (StepAt.MultiFrameWrite k body targets after) e =
+  steps_view n at (Ok (PlacedStep.FrameWrite first k body after)) e = written_before n at first k body after (write_view l f own b at first k body after e) _ refl
+  steps_view n at (Ok (PlacedStep.MultiFrameWrite k body targets after)) e =
       let v = multi_view l f own b at k body targets after e in
       rw v.list_read (multi_before n at k body targets after v _ refl)
-  steps_view n at (StepAt.Refused c offset) e = tt
+  steps_view n at (Err x) e = tt
 
   pub first_step : (n at : ℕ) (ss : List Step) (next : ℕ) → steps_at l f own b (suc n) at ≡ Read ss next → FirstStep n at ss next
   unfolding steps_at
@@ -63,9 +62,9 @@ module _ (l f : ℕ) (own : ℕ → Bool) (b : List ℕ) where
     pub count : ℕ
     pub first : ℕ
     pub number : ℕ
-    pub edition_read_lem : number_at b 0 ≡ Number.Value 1 device
-    pub device_read_lem : number_at b device ≡ Number.Value d count
-    pub count_read_lem : number_at b count ≡ Number.Value number first
+    pub edition_read_lem : number_at b 0 ≡ Ok (read 1 device)
+    pub device_read_lem : number_at b device ≡ Ok (read d count)
+    pub count_read_lem : number_at b count ≡ Ok (read number first)
     pub few : number ≤ most_steps
     pub all_read : steps_at l f own b number first ≡ Read ss next
     pub end : length b ≤ next
@@ -74,7 +73,7 @@ module _ (l f : ℕ) (own : ℕ → Bool) (b : List ℕ) where
   View d (Reading.Read ss next) = LayoutView d ss next
   View d (Reading.Refused c offset) = Unit {0}
 
-  ended_view : (d device count number first : ℕ) → number_at b 0 ≡ Number.Value 1 device → number_at b device ≡ Number.Value d count → number_at b count ≡ Number.Value number first
+  ended_view : (d device count number first : ℕ) → number_at b 0 ≡ Ok (read 1 device) → number_at b device ≡ Ok (read d count) → number_at b count ≡ Ok (read number first)
       → number ≤ most_steps → (r : Reading (List Step)) → steps_at l f own b number first ≡ r → View d (end_read b r)
   unfolding end_read
   ended_view d device count number first e g h few (Reading.Read ss next) s =
@@ -92,24 +91,24 @@ module _ (l f : ℕ) (own : ℕ → Bool) (b : List ℕ) where
       }
   ended_view d device count number first e g h few (Reading.Refused c offset) s = tt
 
-  count_view : (d device count : ℕ) → number_at b 0 ≡ Number.Value 1 device → number_at b device ≡ Number.Value d count → (x : Number) → number_at b count ≡ x
+  count_view : (d device count : ℕ) → number_at b 0 ≡ Ok (read 1 device) → number_at b device ≡ Ok (read d count) → (x : NumberRead) → number_at b count ≡ x
       → View d (count_read l f own b count x)
   unfolding count_read
-  count_view d device count e g (Number.Value n next) h =
-      either (View d) (ltb most_steps n) (λ _. tt) (λ few. ended_view d device count n next e g h (ltb-false most_steps n few) _ refl)
-  count_view d device count e g (Number.Refused c) h = tt
+  count_view d device count e g (Ok n) h =
+      either (View d) (ltb most_steps n.value) (λ _. tt) (λ few. ended_view d device count n.value n.next e g h (ltb-false most_steps n.value few) _ refl)
+  count_view d device count e g (Err c) h = tt
 
-  device_view : (d device : ℕ) → number_at b 0 ≡ Number.Value 1 device → (x : Number) → number_at b device ≡ x → View d (device_read l f own b d device x)
+  device_view : (d device : ℕ) → number_at b 0 ≡ Ok (read 1 device) → (x : NumberRead) → number_at b device ≡ x → View d (device_read l f own b d device x)
   unfolding device_read
-  device_view d device e (Number.Value v next) g =
-      either (View d) (eqb v d) (λ same. count_view d device next e (rw (← eqb-true v d same) g) (number_at b next) refl) (λ _. tt)
-  device_view d device e (Number.Refused c) g = tt
+  device_view d device e (Ok v) g =
+      either (View d) (eqb v.value d) (λ same. count_view d device v.next e (rw (← eqb-true v.value d same) g) (number_at b v.next) refl) (λ _. tt)
+  device_view d device e (Err c) g = tt
 
-  edition_view : (d : ℕ) (x : Number) → number_at b 0 ≡ x → View d (edition_read l f own b d 0 x)
+  edition_view : (d : ℕ) (x : NumberRead) → number_at b 0 ≡ x → View d (edition_read l f own b d 0 x)
   unfolding edition_read
-  edition_view d (Number.Value v next) e =
-      either (View d) (eqb v 1) (λ one. device_view d next (rw (← eqb-true v 1 one) e) (number_at b next) refl) (λ _. tt)
-  edition_view d (Number.Refused c) e = tt
+  edition_view d (Ok v) e =
+      either (View d) (eqb v.value 1) (λ one. device_view d v.next (rw (← eqb-true v.value 1 one) e) (number_at b v.next) refl) (λ _. tt)
+  edition_view d (Err c) e = tt
 
   pub layout_view : (d : ℕ) (ss : List Step) (next : ℕ) → layout_read l f own b d ≡ Read ss next → LayoutView d ss next
   layout_view d ss next e = subst (View d) e (edition_view d (number_at b 0) refl)

@@ -3,4 +3,4 @@ use Rattle.std.proofs.Common.{◌≡◌, ◌*◌, ◌≤◌, length}
 use Rattle.load50.proofs.load_input.Given as goal
 
 abbrev pub invariant-loop : goal.invariant-loop
-invariant-loop g l = (l.taken ≤ 65536 * l.counter) × (length l.buffer ≡ 65536)
+invariant-loop g l = (l.session.taken ≤ 65536 * l.counter) × (length l.buffer ≡ 65536)

@@ -1,37 +1,30 @@
 -- `loader::run` meets its contract. The invariant goes by what is left: the rest of the bytes, run from here, gives what all of
 -- them give. A turn is `advance`'s; a stop or the end leaves nothing to run.
-use mathlib.Core.Path.{◌≡◌, ◌∙◌, sym, ap}
-use mathlib.Core.List.{List}
-use Prim.Native.Nat.{ℕ, ◌+◌, ◌≤◌}
-use native.Mathlib.Nat.{add-zero}
-use lib.ListN.{length, drop, drop_of_length-le}
+use Rattle.std.proofs.Common.{◌≡◌, ◌∙◌, sym, ap, List, [], ◌∷◌, ℕ, true, eqb, length, refl, add-zero, arith}
+use borrow.Author.Tests.{eqb-true}
 use Rattle.loader.specs.Run.{Ran, ran, after, run}
-use Rattle.loader.specs.Laws.Pieces.{stopped_run, after_after}
-use Rattle.loader.specs.Inner.Turn.{Turn}
+use Rattle.loader.specs.Laws.Pieces.{stopped_run}
 use Rattle.record.specs.declared.Record.{Record}
+use Rattle.loader.proofs.run.Goals.{then-loop-device-test+else-not-is_stopped, else-loop-device-test}
 use Rattle.loader.proofs.run.Goals as goal
 
 -- a run that is over, by its parts
-ended : {d : Record} {m : List ℕ} {i : ℕ} {r : Ran} → after i (ran d m 0) ≡ r → (d ≡ r.«record») × ((i ≡ r.taken) × (m ≡ r.memory))
-ended {i = i} e = (ap (λ (q : Ran). q.«record») e, (sym (add-zero i) ∙ ap (λ (q : Ran). q.taken) e, ap (λ (q : Ran). q.memory) e))
+ended : {d : Record} {m : List ℕ} (s : List ℕ) {i : ℕ} {r : Ran} → run d m s ≡ ran d m 0 → after i (run d m s) ≡ r
+    → record { record_value : d ≡ r.«record»; memory_after : m ≡ r.memory; taken_value : i ≡ r.taken }
+ended s {i = i} over e =
+    let here = sym (ap (after i) over) ∙ e in
+    record { record_value = ap (λ (q : Ran). q.«record») here; memory_after = ap (λ (q : Ran). q.memory) here; taken_value = sym (add-zero i) ∙ ap (λ (q : Ran). q.taken) here }
 
--- what is left after a turn
-turned : {d e : Record} {m k s : List ℕ} {i n : ℕ} {r : Ran} → Turn d m e k s i n → after i (run d m (drop i s)) ≡ r → after (i + n) (run e k (drop (i + n) s)) ≡ r
-turned {i = i} {n = n} h inv = sym (after_after i n _) ∙ ap (after i) (sym h.runs) ∙ inv
-
--- past the end nothing is left
-at_end : (d : Record) (m s : List ℕ) (i : ℕ) → length s ≤ i → run d m (drop i s) ≡ ran d m 0
+-- no bytes are left
+none_left : (d : Record) (m s : List ℕ) → eqb (length s) 0 ≡ true → run d m s ≡ ran d m 0
 unfolding run
-at_end d m s i h = rw (drop_of_length-le s h)
-
-pub returns-then-is_stopped : goal.returns-then-is_stopped
-returns-then-is_stopped c =
-    let l = c.loop-i in
-    let e = ended (sym (ap (after l.i) (stopped_run _ _ _ (sym c.is_stopped.ensures ∙ c.if-is_stopped.true))) ∙ l.invariant.3) in
-    record { record_value = e.0; taken_value = e.1.0; memory_after = e.1.1 }
+none_left d m [] h = refl
+none_left d m (x ∷ xs) h = absurd (omega (arith, eqb-true (length (x ∷ xs)) 0 h))
 
 pub returns : goal.returns
 returns c =
-    let l = c.loop-i in
-    let e = ended (sym (ap (after l.i) (at_end _ _ c.args.bytes.now l.i c.loop-i-test.false)) ∙ l.invariant.3) in
-    record { record_value = e.0; taken_value = e.1.0; memory_after = e.1.1 }
+    let l = c.loop-device in
+    elim c.loop-device-test.branch [
+      | then-loop-device-test+else-not-is_stopped w ↦ ended l.rest.now (stopped_run l.device l.memory l.rest.now (sym w.is_stopped.ensures ∙ w.if-not-is_stopped.false)) l.invariant.runs
+      | else-loop-device-test w ↦ ended l.rest.now (none_left l.device l.memory l.rest.now (sym c.is_empty.ensures ∙ w.loop-device-test.false)) l.invariant.runs
+    ]

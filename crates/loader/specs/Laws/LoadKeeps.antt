@@ -1,6 +1,6 @@
 -- What every load keeps: a consistent record stays consistent, the four flags stay set, pieces join, and a stop keeps the frames
 -- stored before. Each is a theorem of a byte or a word, carried over the bytes of a run.
-use Rattle.std.specs.Prelude.{◌≡◌, refl, ◌≢◌, List, ◌∷◌, ◌++◌, Bool, true, false, ℕ, ◌≤◌, length}
+use Rattle.std.specs.Prelude.{◌≡◌, refl, ◌≢◌, List, ◌∷◌, ◌++◌, Bool, true, false, ℕ, ◌≤◌, length, Ok}
 use Rattle.std.proofs.Common.{◌∙◌, sym, ap, arith}
 use Rattle.std.proofs.Math.Decide.{ℕ_discrete}
 use Rattle.config.specs.PhaseTests.{is_stopped, takes_words}
@@ -21,7 +21,6 @@ use Rattle.loader.specs.Run.{Ran, ran, run}
 use Rattle.record.specs.PowerOn.{Outcome}
 use Rattle.parts.specs.Table.{memory_at}
 use Rattle.loader.specs.Load.{answer_of, load}
-use Rattle.answers.specs.declared.LoadAnswer.TheVariants as LoadAnswer
 use Rattle.loader.specs.Laws.Pieces.{run_invariant, run_append, taken_le, taken_all, load_accepted, load_inconsistent, load_wrong_memory, load_cases, loadable_again, later, load_append}
 use Rattle.loader.specs.Laws.WordRun.{partial_empty, word_transition}
 use Rattle.loader.specs.Laws.WordRun.{word_stops as run_stops}
@@ -40,7 +39,7 @@ pub load_taken : (d : Record) (m xs : List ℕ) → (load d m xs).taken ≤ leng
 load_taken d m xs = load_cases (λ o. o.taken ≤ length xs) d m xs (taken_le d m xs) (λ a. omega arith)
 
 -- and with stop 0 they are all of it
-done_runs : (p : Phase) → answer_of p ≡ LoadAnswer.Done → is_stopped p ≡ false
+done_runs : (p : Phase) → answer_of p ≡ Ok tt → is_stopped p ≡ false
 unfolding answer_of
 done_runs (Phase.Hunting b) h = refl
 done_runs (Phase.Header o) h = refl
@@ -48,7 +47,7 @@ done_runs (Phase.Data r left filled) h = refl
 done_runs Phase.Crc h = refl
 done_runs (Phase.Stopped s) h = let z : ◌≡◌ {A = ℕ} 0 1 = cc in absurd (omega arith)
 
-pub load_all : (d : Record) (m xs : List ℕ) → (load d m xs).answer ≡ LoadAnswer.Done → (load d m xs).taken ≡ length xs
+pub load_all : (d : Record) (m xs : List ℕ) → (load d m xs).answer ≡ Ok tt → (load d m xs).taken ≡ length xs
 load_all d m xs h = go (consistent d.phase d.control) refl
   where
     go : (t : Bool) → consistent d.phase d.control ≡ t → (load d m xs).taken ≡ length xs

@@ -1,6 +1,6 @@
 -- A load by pieces, cut at any byte, ends as the joined load; a stopped record takes nothing; a refusal changes nothing.
 -- By induction on the first piece: from a stop on nothing changes, and before it each byte is one step of both runs.
-use Rattle.std.specs.Prelude.{◌≡◌, refl, ◌≢◌, List, [], ◌∷◌, ◌++◌, Bool, true, false, ℕ, suc, ◌+◌, ◌≤◌, eqb, length}
+use Rattle.std.specs.Prelude.{◌≡◌, refl, ◌≢◌, List, [], ◌∷◌, ◌++◌, Bool, true, false, ℕ, suc, ◌+◌, ◌≤◌, eqb, length, Err}
 use Rattle.std.proofs.Common.{◌∙◌, sym, ap, zero-add, add_assoc, one-add, arith}
 use borrow.Author.Tests.{eq-eqb, ne_eqb, eqb-true, eqb-false}
 use Rattle.record.specs.Consistency.{consistent}
@@ -13,7 +13,7 @@ use Rattle.record.specs.PowerOn.{Outcome}
 use Rattle.parts.specs.Table.{memory_at}
 use Rattle.loader.specs.Load.{answer_of, refused, finished, load}
 use Rattle.record.specs.declared.Record.{Record}
-use Rattle.answers.specs.declared.LoadAnswer.TheVariants as LoadAnswer
+use Rattle.answers.specs.declared.LoadError.{LoadError}
 
 -- ---- a run
 
@@ -106,7 +106,7 @@ module _ (d : Record) (m xs : List ℕ) where
 
   -- 01: "A stopped device takes nothing and answers the same number"
   pub load_stopped : (s : Stop) → Loadable d m → d.phase ≡ Phase.Stopped s
-      → load d m xs ≡ record { «record» = d; memory = m; answer = LoadAnswer.Stopped s; taken = 0 }
+      → load d m xs ≡ record { «record» = d; memory = m; answer = Err (LoadError.Stopped s); taken = 0 }
   unfolding answer_of
   load_stopped s h p = rw (load_accepted h, stopped_run d m xs (ap is_stopped p), p)
 

@@ -1,19 +1,18 @@
 -- A number read over groups that stand before it, for the loop that reads group by group.
 -- By cases of what was read, and of how many groups may still follow.
-use Rattle.std.specs.Prelude.{◌≡◌, refl, List, ◌∷◌, eqb, length, get_or, drop}
+use Rattle.std.specs.Prelude.{◌≡◌, refl, List, ◌∷◌, eqb, length, get_or, drop, Ok, Err}
 use Rattle.std.proofs.Common.{◌∙◌, sym, ap, mul_assoc, add-one, drop_of_length-le, drop-cons, lt-ltb, le-ltb, ne_eqb, eq-eqb}
 use Rattle.std.proofs.Math.Bool.{false}
 use Prim.Native.Nat.{ℕ, zero, suc, ◌+◌, ◌-◌, ◌*◌, ◌^◌, ◌≤◌, ◌<◌}
 use Rattle.std.proofs.Math.Nat.{mul-le-mul_left, one-le-pow, pow-succ'}
 use native.Mathlib.Omega.{arith}
-use Rattle.answers.specs.declared.Refusal.TheVariants as Refusal
-use Rattle.numbers.specs.Number.{last_group, low_group, groups, number_at}
-use Rattle.numbers.specs.declared.Number.{Number}
+use Rattle.answers.specs.declared.Refusal.{Refusal}
+use Rattle.numbers.specs.Number.{NumberRead, read, last_group, low_group, groups, number_at}
 
 -- the groups before have the value low, and the next group has this weight
-unfoldable pub scaled : ℕ → ℕ → Number → Number
-scaled low weight (Number.Value v next) = Number.Value (low + weight * v) next
-scaled low weight (Number.Refused c) = Number.Refused c
+unfoldable pub scaled : ℕ → ℕ → NumberRead → NumberRead
+scaled low weight (Ok n) = Ok (read (low + weight * n.value) n.next)
+scaled low weight (Err c) = Err c
 
 -- what was read up to offset i; left groups may follow the next one
 pub record GroupsRead (b : List ℕ) (at i low weight : ℕ) : Type 0 where
@@ -23,15 +22,15 @@ pub record GroupsRead (b : List ℕ) (at i low weight : ℕ) : Type 0 where
   pub onward : at ≤ i
   pub is : scaled low weight (groups left (eqb i at) i (drop i b)) ≡ number_at b at
 
-scaled_low : (low weight x : ℕ) (r : Number) → scaled low weight (low_group x r) ≡ scaled (low + weight * x) (weight * 128) r
+scaled_low : (low weight x : ℕ) (r : NumberRead) → scaled low weight (low_group x r) ≡ scaled (low + weight * x) (weight * 128) r
 unfolding scaled low_group
-scaled_low low weight x (Number.Value v next) = ap (λ n. Number.Value n next) (omega arith)
-scaled_low low weight x (Number.Refused c) = refl
+scaled_low low weight x (Ok n) = ap (λ v. Ok (read v n.next)) (omega arith)
+scaled_low low weight x (Err c) = refl
 
-scaled_none : (r : Number) → scaled 0 1 r ≡ r
+scaled_none : (r : NumberRead) → scaled 0 1 r ≡ r
 unfolding scaled
-scaled_none (Number.Value v next) = ap (λ n. Number.Value n next) (omega arith)
-scaled_none (Number.Refused c) = refl
+scaled_none (Ok n) = ap (λ v. Ok (read v n.next)) (omega arith)
+scaled_none (Err c) = refl
 
 pub reading_start : (b : List ℕ) (at : ℕ) → GroupsRead b at at 0 1
 reading_start b at =
@@ -61,11 +60,11 @@ module _ {b : List ℕ} {at i low weight : ℕ} (r : GroupsRead b at i low weigh
   next : Next r.left
   next = rw (add-one i, ← drop-cons b i 0 h) r.is
 
-  pub reading_high : weight ≡ 128 ^ 4 → 15 < x → Number.Refused Refusal.BadForm ≡ number_at b at
+  pub reading_high : weight ≡ 128 ^ 4 → 15 < x → Err Refusal.BadForm ≡ number_at b at
   unfolding groups scaled
   reading_high w high = go r.left r.weighs next
     where
-      go : (k : ℕ) → weight * 128 ^ k ≡ 128 ^ 4 → Next k → Number.Refused Refusal.BadForm ≡ number_at b at
+      go : (k : ℕ) → weight * 128 ^ k ≡ 128 ^ 4 → Next k → Err Refusal.BadForm ≡ number_at b at
       go zero e is = rw (lt-ltb 15 x high) at is
       go (suc k) e is = absurd (omega (arith, weight_le (weight * 128) k (fewer weight k e)))
 
@@ -105,13 +104,13 @@ module _ {b : List ℕ} {at i low weight : ℕ} (r : GroupsRead b at i low weigh
 pub reading_weight : {b : List ℕ} {at i low weight : ℕ} → GroupsRead b at i low weight → weight ≤ 128 ^ 4
 reading_weight {weight = w} r = weight_le w r.left r.weighs
 
-pub reading_end : {b : List ℕ} {at i low weight : ℕ} → GroupsRead b at i low weight → length b ≤ i → Number.Refused Refusal.Missing ≡ number_at b at
+pub reading_end : {b : List ℕ} {at i low weight : ℕ} → GroupsRead b at i low weight → length b ≤ i → Err Refusal.Missing ≡ number_at b at
 unfolding groups scaled
 reading_end {b} r h = rw (drop_of_length-le b h) at r.is
 
 -- a fifth byte above 15, told of the groups from it on, so that a search finds it from what the loop keeps
 pub fifth_high : (b : List ℕ) (at i low weight left : ℕ) → weight * 128 ^ left ≡ 128 ^ 4 → weight ≡ 128 ^ 4 → i < length b → 15 < get_or b i 0
-    → scaled low weight (groups left (eqb i at) i (drop i b)) ≡ Number.Refused Refusal.BadForm
+    → scaled low weight (groups left (eqb i at) i (drop i b)) ≡ Err Refusal.BadForm
 unfolding groups scaled
 fifth_high b at i low weight zero e w h high = rw (drop-cons b i 0 h, lt-ltb 15 (get_or b i 0) high)
 fifth_high b at i low weight (suc k) e w h high = absurd (omega (arith, weight_le (weight * 128) k (fewer weight k e)))

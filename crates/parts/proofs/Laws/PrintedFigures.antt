@@ -1,13 +1,12 @@
 -- The table against the figures that the papers print: 01's columns L and F, and 001's Table 7.
 -- Each is one computation over the whole table; a part's limits at any device number are one computed test.
-use Rattle.std.specs.Prelude.{◌≡◌, refl, List, [], ◌∷◌, map, Bool, true, ◌&&◌, ℕ, zero, suc, ◌*◌, ◌≤◌, ◌<◌, leb, length, get_or}
+use Rattle.std.specs.Prelude.{◌≡◌, refl, List, [], ◌∷◌, map, Bool, true, ◌&&◌, ℕ, zero, suc, ◌*◌, ◌≤◌, ◌<◌, leb, length, get_or, Ok}
 use Rattle.std.proofs.Math.Bool.{and-eq-true_iff}
 use Rattle.std.proofs.Common.{le_of_suc-le-suc, not-suc-le-zero, mul-le-mul, le_refl, arith, lt-ltb, le-ltb, leb-true}
 use Rattle.std.proofs.Math.Decide.{dec_lt}
 use Rattle.parts.specs.Table.{part, parts, part_of, idcode_of, frame_length, frame_count, memory_length}
 use Rattle.parts.specs.Inner.PartLimits.{Limits}
 use Rattle.parts.specs.declared.table.Part.{Part}
-use Rattle.parts.specs.declared.table.PartAnswer.{PartAnswer}
 
 -- 01, "The eight parts": the column "words a frame"
 pub frame_lengths : map frame_length parts ≡ 37 ∷ 53 ∷ 69 ∷ 101 ∷ 133 ∷ 165 ∷ 197 ∷ 213 ∷ []
@@ -71,7 +70,7 @@ pub idcode_limit : (p : Part) → Limits p → idcode_of p ≤ 0xFFFFFFFF
 unfolding idcode_of
 idcode_limit p l = l.idcode
 
-pub known_limits : (d : ℕ) (p : Part) → part_of d ≡ PartAnswer.Known p → Limits p
+pub known_limits : (d : ℕ) (p : Part) → part_of d ≡ Ok p → Limits p
 unfolding part_of parts within all
 known_limits d p e =
     elim (dec_lt d 8) [

@@ -1,6 +1,6 @@
 -- The lookups a run of columns at a time, as the code goes.
 -- By induction on the length of the run, and by the place of a run among the six.
-use Rattle.std.specs.Prelude.{◌≡◌, List, [], ◌∷◌, ◌++◌, Bool, true, false, ◌&&◌, eqb, leb, ltb, length, get_or, drop}
+use Rattle.std.specs.Prelude.{◌≡◌, List, [], ◌∷◌, ◌++◌, Bool, true, false, ◌&&◌, eqb, leb, ltb, length, get_or, drop, Some, Result, Ok, Err}
 use Rattle.std.proofs.Common.{◌∙◌, sym, ap, true≢false, le_of_suc-le-suc, not-suc-le-zero, mul-le-mul_right, add-zero, add-one, drop_of_length-le, drop-cons, lt-ltb, le-leb, eq-eqb, eqb-true, leb-true, ltb-true}
 use Rattle.std.proofs.Math.Bool.{and-eq-true_iff}
 use Prim.Native.Nat.{ℕ, zero, suc, ◌+◌, ◌-◌, ◌*◌, ◌≤◌, ◌<◌}
@@ -13,9 +13,7 @@ use Rattle.parts.specs.FrameAddress.{address, address_in, number_in}
 use Rattle.parts.specs.Laws.ColumnLookup.{address_here, address_later, number_here, number_later, names_frame, frame_names, fails}
 use Rattle.parts.specs.declared.table.Part.{Part}
 use Rattle.parts.specs.declared.frame.Run.{Run}
-use Rattle.parts.specs.declared.frame.Search.{Search}
-use Rattle.answers.specs.declared.Answer.{Answer}
-use Rattle.parts.specs.declared.frame.NumberAnswer.TheVariants as NumberAnswer
+use Rattle.answers.specs.AnswerNumbers.{Answer}
 
 -- every column of the run fits the fields of an address
 pub record FieldsFit (r : Run) : Type 0 where
@@ -24,9 +22,9 @@ pub record FieldsFit (r : Run) : Type 0 where
   pub minors : r.minors ≤ 256
 
 -- the answer where a search of a run ended so and these columns follow
-unfoldable pub resumed : Search → List Column → Answer
-resumed (Search.Found a) rest = Answer.Done a
-resumed (Search.Past n) rest = address_in rest n
+unfoldable pub resumed : Result ℕ ℕ → List Column → Answer
+resumed (Ok a) rest = Ok a
+resumed (Err n) rest = address_in rest n
 
 -- the frame at block b, major m, minor k is in the run
 unfoldable pub in_run : Run → ℕ → ℕ → ℕ → Bool
@@ -38,7 +36,7 @@ module _ (n b m k : ℕ) (rest : List Column) (i left : ℕ) where
   abbrev after : ℕ → List Column
   after j = columns_from (n - j) b (m + j) k ++ rest
 
-  pub run_here : i < n → left < k → address_in (after i) left ≡ Answer.Done (address b (m + i) left)
+  pub run_here : i < n → left < k → address_in (after i) left ≡ Ok (address b (m + i) left)
   unfolding columns_from
   run_here h l = let s : n - i ≡ suc (n - suc i) = omega arith in rw s (address_here _ _ left l)
 
@@ -77,7 +75,7 @@ unfolding in_run
 frame_in_run r B M K b m n k = simp (eq-eqb _ _ b, le-leb _ _ m, lt-ltb _ _ n, lt-ltb _ _ k)
 
 pub number_in_run : (n b m k : ℕ) (rest : List Column) (first B M K : ℕ) → b ≡ B → m ≤ M → M < m + n → K < k
-    → number_in (columns_from n b m k ++ rest) first B M K ≡ NumberAnswer.Number (first + (M - m) * k + K)
+    → number_in (columns_from n b m k ++ rest) first B M K ≡ Some (first + (M - m) * k + K)
 unfolding columns_from
 number_in_run zero b m k rest first B M K hb hm hn hk = absurd (omega arith)
 number_in_run (suc n) b m k rest first B M K hb hm hn hk =
@@ -86,12 +84,12 @@ number_in_run (suc n) b m k rest first B M K hb hm hn hk =
           let s : M - m ≡ suc (M - (m + 1)) = omega arith in
           number_later _ _ first B M K (fails _ (λ t. omega (arith, (names_frame _ B M K t).1)))
           ∙ number_in_run n b (m + 1) k rest (first + k) B M K hb (omega arith) (omega arith) hk
-          ∙ ap NumberAnswer.Number (rw s (omega arith))
+          ∙ ap Some (rw s (omega arith))
       | no h ↦
           let e : m ≡ M = omega arith in
           let z : M - m ≡ 0 = omega arith in
           number_here _ _ first B M K (rw (← hb, ← e) (frame_names _ K hk))
-          ∙ ap NumberAnswer.Number (rw z (omega arith))
+          ∙ ap Some (rw z (omega arith))
     ]
 
 pub number_past_run : (n b m k : ℕ) (rest : List Column) (first B M K : ℕ) → (b ≡ B → m ≤ M → M < m + n → K < k → ⊥)
@@ -115,24 +113,28 @@ in_run_below n m k M K hn hm hk = let h : suc (M - m) ≤ n = omega arith in ome
 
 -- ---- the runs of a part that are left after i of them
 
+-- a run of the array is that of the list
+pub run_in : (p : Part) (rs : List Run) (i : ℕ) → rs ≡ runs p → get_or rs i (run 0 0 0 0) ≡ get_or (runs p) i (run 0 0 0 0)
+run_in p rs i e = ap (λ rs. get_or rs i (run 0 0 0 0)) e
+
 pub runs_left : (p : Part) (i : ℕ) → i < 6 → columns_of (drop i (runs p)) ≡ run_columns (get_or (runs p) i (run 0 0 0 0)) ++ columns_of (drop (i + 1) (runs p))
 unfolding columns_of runs
 runs_left p i h = rw (add-one i, drop-cons (runs p) i (run 0 0 0 0) h)
 
 -- a search of the next run resumes with the runs after it
-module _ (p : Part) (i left : ℕ) (r : Run) (s : Search) (h : i < 6) (e : r ≡ get_or (runs p) i (run 0 0 0 0))
+module _ (p : Part) (i left : ℕ) (r : Run) (s : Result ℕ ℕ) (h : i < 6) (e : r ≡ get_or (runs p) i (run 0 0 0 0))
     (ended : (rest : List Column) → address_in (run_columns r ++ rest) left ≡ resumed s rest) where
-  pub runs_found : (a : ℕ) → s ≡ Search.Found a → Answer.Done a ≡ address_in (columns_of (drop i (runs p))) left
+  pub runs_found : (a : ℕ) → s ≡ Ok a → Ok a ≡ address_in (columns_of (drop i (runs p))) left
   unfolding resumed
   runs_found a k = rw (runs_left p i h, ← e, ended _, k)
 
-  pub runs_past : (n : ℕ) → s ≡ Search.Past n → address_in (columns_of (drop (i + 1) (runs p))) n ≡ address_in (columns_of (drop i (runs p))) left
+  pub runs_past : (n : ℕ) → s ≡ Err n → address_in (columns_of (drop (i + 1) (runs p))) n ≡ address_in (columns_of (drop i (runs p))) left
   unfolding resumed
   runs_past n k = rw (runs_left p i h, ← e, ended _, k)
 
 -- a frame that the next run has is found, and for any other the runs after it are looked through
 module _ (p : Part) (i first : ℕ) (r : Run) (B M K : ℕ) (h : i < 6) (e : r ≡ get_or (runs p) i (run 0 0 0 0)) where
-  pub runs_number : in_run r B M K ≡ true → NumberAnswer.Number (first + (M - r.major) * r.minors + K) ≡ number_in (columns_of (drop i (runs p))) first B M K
+  pub runs_number : in_run r B M K ≡ true → Some (first + (M - r.major) * r.minors + K) ≡ number_in (columns_of (drop i (runs p))) first B M K
   runs_number t =
       let f = in_run_frame r B M K t in
       rw (runs_left p i h, ← e) (sym (number_in_run r.columns r.block r.major r.minors _ first B M K f.0 f.1 f.2 f.3))

@@ -1,13 +1,11 @@
 -- The laws of the two lookups, one column at a time, and of the fields of an address.
 -- Each case of a definition is one law, by the test that picks it; the fields by linear arithmetic.
-use Rattle.std.specs.Prelude.{◌≡◌, refl, List, ◌∷◌, Bool, true, false, ◌&&◌, ℕ, ◌+◌, ◌-◌, ◌≤◌, ◌<◌, eqb, ltb}
+use Rattle.std.specs.Prelude.{◌≡◌, refl, List, ◌∷◌, Bool, true, false, ◌&&◌, ℕ, ◌+◌, ◌-◌, ◌≤◌, ◌<◌, eqb, ltb, Some, Ok}
 use Rattle.std.proofs.Math.Bool.{and-eq-true_iff}
 use native.Mathlib.Omega.{arith}
 use Rattle.std.proofs.Common.{lt-ltb, le-ltb, eq-eqb, eqb-true, ltb-true}
 use Rattle.parts.specs.Columns.{Column}
 use Rattle.parts.specs.FrameAddress.{address, block, major, minor, address_in, names, number_in}
-use Rattle.answers.specs.declared.Answer.TheVariants as Answer
-use Rattle.parts.specs.declared.frame.NumberAnswer.TheVariants as NumberAnswer
 
 -- ---- the fields of an address that was put together
 
@@ -26,7 +24,7 @@ module _ (b m k : ℕ) (hb : b < 4) (hm : m < 256) (hk : k < 256) where
 
 -- ---- one column more
 
-pub address_here : (c : Column) (cs : List Column) (n : ℕ) → n < c.minors → address_in (c ∷ cs) n ≡ Answer.Done (address c.block c.major n)
+pub address_here : (c : Column) (cs : List Column) (n : ℕ) → n < c.minors → address_in (c ∷ cs) n ≡ Ok (address c.block c.major n)
 unfolding address_in
 address_here c cs n h = simp (lt-ltb n c.minors h)
 
@@ -34,7 +32,7 @@ pub address_later : (c : Column) (cs : List Column) (n : ℕ) → c.minors ≤ n
 unfolding address_in
 address_later c cs n h = simp (le-ltb n c.minors h)
 
-pub number_here : (c : Column) (cs : List Column) (first b m k : ℕ) → names c b m k ≡ true → number_in (c ∷ cs) first b m k ≡ NumberAnswer.Number (first + k)
+pub number_here : (c : Column) (cs : List Column) (first b m k : ℕ) → names c b m k ≡ true → number_in (c ∷ cs) first b m k ≡ Some (first + k)
 unfolding number_in
 number_here c cs first b m k h = simp h
 

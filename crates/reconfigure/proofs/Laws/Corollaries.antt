@@ -1,13 +1,11 @@
 -- Two layouts one after the other, and a stream with any bytes after it.
 -- A load leaves a record that waits for sync again, so the next stream finds what demand 3 asks; a load by pieces is the joined load.
-use Rattle.std.specs.Prelude.{◌≡◌, refl, List, ◌++◌, false, ℕ, ◌+◌, ◌≤◌, length}
+use Rattle.std.specs.Prelude.{◌≡◌, refl, List, ◌++◌, false, ℕ, ◌+◌, ◌≤◌, length, Ok}
 use Rattle.std.proofs.Common.{◌∙◌, ap, arith}
 use Rattle.parts.specs.Table.{length_at}
 use Rattle.parts.proofs.Laws.Figures.{length_fits}
 use Rattle.parts.specs.FrameMemory.{frame_of}
 use Rattle.words.specs.Laws.ByteLists.{AreBytes}
-use Rattle.answers.specs.declared.LoadAnswer.TheVariants as LoadAnswer
-use Rattle.answers.specs.declared.Answer.TheVariants as Answer
 use Rattle.config.specs.declared.PartialWord.TheVariants as PartialWord
 use Rattle.record.specs.declared.Record.{Record}
 use Rattle.layout.specs.Ownership.{owns}
@@ -21,7 +19,7 @@ use Rattle.loader.specs.Laws.UntouchedFrames.{run_buffer, load_keeps}
 use Rattle.loader.specs.Laws.LoadKeeps.{load_pieces}
 use Rattle.reconfigure.proofs.Laws.Demand3.{AwaitsSync, stream_effect}
 
-module _ (d n : ℕ) (r : FrameRange) (b : List ℕ) (bytes : AreBytes b) (taken : check d r b ≡ Answer.Done n) (e : Record) (m : List ℕ) (w : AwaitsSync d e m) where
+module _ (d n : ℕ) (r : FrameRange) (b : List ℕ) (bytes : AreBytes b) (taken : check d r b ≡ Ok n) (e : Record) (m : List ℕ) (w : AwaitsSync d e m) where
   -- the record and the memory that the load leaves
   abbrev pub left : Record
   left = (load e m (stream_for d r b)).«record»
@@ -52,15 +50,15 @@ module _ (d n : ℕ) (r : FrameRange) (b : List ℕ) (bytes : AreBytes b) (taken
   outside_stays = (stream_effect d n r b bytes taken e m w).effect.outside
 
   -- another accepted layout, for any range: the reference machine one after the other
-  pub then_another : (n' : ℕ) (r' : FrameRange) (b' : List ℕ) → AreBytes b' → check d r' b' ≡ Answer.Done n'
-      → ((load left made (stream_for d r' b')).answer ≡ LoadAnswer.Done) × ((load left made (stream_for d r' b')).memory ≡ machine d b' (machine d b m))
+  pub then_another : (n' : ℕ) (r' : FrameRange) (b' : List ℕ) → AreBytes b' → check d r' b' ≡ Ok n'
+      → ((load left made (stream_for d r' b')).answer ≡ Ok tt) × ((load left made (stream_for d r' b')).memory ≡ machine d b' (machine d b m))
   then_another n' r' b' bytes' taken' =
       let next = stream_effect d n' r' b' bytes' taken' left made waits_again in
       (next.stop, next.effect.memory ∙ ap (machine d b') (stream_effect d n r b bytes taken e m w).effect.memory)
 
   -- and so the two streams as one
-  pub both : (n' : ℕ) (r' : FrameRange) (b' : List ℕ) → AreBytes b' → check d r' b' ≡ Answer.Done n'
-      → let o = load e m (stream_for d r b ++ stream_for d r' b') in (o.answer ≡ LoadAnswer.Done) × (o.taken ≡ n + n') × (o.memory ≡ machine d b' (machine d b m))
+  pub both : (n' : ℕ) (r' : FrameRange) (b' : List ℕ) → AreBytes b' → check d r' b' ≡ Ok n'
+      → let o = load e m (stream_for d r b ++ stream_for d r' b') in (o.answer ≡ Ok tt) × (o.taken ≡ n + n') × (o.memory ≡ machine d b' (machine d b m))
   both n' r' b' bytes' taken' =
       let next = then_another n' r' b' bytes' taken' in
       let all = (stream_effect d n' r' b' bytes' taken' left made waits_again).taken in

@@ -1,6 +1,6 @@
 -- Demand 3: the stream that the compiler wrote, loaded into any record of its part that waits for sync, does the layout's steps.
 -- The stream's words lead there; the reference machine does the steps that the check read; these name frames of the range alone.
-use Rattle.std.specs.Prelude.{◌≡◌, List, true, ℕ, take}
+use Rattle.std.specs.Prelude.{◌≡◌, List, true, ℕ, take, Ok}
 use Rattle.std.proofs.Common.{◌∙◌}
 use Rattle.std.proofs.Math.Path.{sym, ap}
 use Rattle.std.proofs.Math.ListN.{length}
@@ -8,8 +8,6 @@ use Rattle.parts.specs.Table.{length_at, count_at, memory_at}
 use Rattle.parts.proofs.Laws.Figures.{memory_size}
 use Rattle.parts.specs.FrameMemory.{frame_of}
 use Rattle.words.specs.Laws.ByteLists.{AreBytes}
-use Rattle.answers.specs.declared.LoadAnswer.TheVariants as LoadAnswer
-use Rattle.answers.specs.declared.Answer.TheVariants as Answer
 use Rattle.config.specs.declared.PartialWord.{PartialWord}
 use Rattle.config.specs.declared.Phase.TheVariants as Phase
 use Rattle.record.specs.Consistency.{consistent}
@@ -46,11 +44,11 @@ pub record AwaitsSync (d : ℕ) (e : Record) (m : List ℕ) : Type 0 where
 
 -- what demand 3 says of a load of n bytes
 pub record LoadEffect (d n : ℕ) (r : FrameRange) (b : List ℕ) (m : List ℕ) (o : Outcome) : Type 0 where
-  pub stop : o.answer ≡ LoadAnswer.Done
+  pub stop : o.answer ≡ Ok tt
   pub taken : o.taken ≡ n
   pub effect : Effect d r b m o.«record» o.memory
 
-module _ (d n : ℕ) (r : FrameRange) (b : List ℕ) (bytes : AreBytes b) (taken : check d r b ≡ Answer.Done n) where
+module _ (d n : ℕ) (r : FrameRange) (b : List ℕ) (bytes : AreBytes b) (taken : check d r b ≡ Ok n) where
   -- the stream of an accepted layout
   pub stream_effect : (e : Record) (m : List ℕ) → AwaitsSync d e m → LoadEffect d n r b m (load e m (stream_for d r b))
   unfolding stream_of answer_of
@@ -83,7 +81,7 @@ module _ (d n : ℕ) (r : FrameRange) (b : List ℕ) (bytes : AreBytes b) (taken
       }
 
 -- 01: "Accepted means that the compiler answers 0; the stream is the bytes it then wrote"
-pub demand_3 : (d n : ℕ) (r : FrameRange) (b out : List ℕ) → AreBytes b → (compiled d r b out).answer ≡ Answer.Done n
+pub demand_3 : (d n : ℕ) (r : FrameRange) (b out : List ℕ) → AreBytes b → (compiled d r b out).answer ≡ Ok n
     → (e : Record) (m : List ℕ) → AwaitsSync d e m → LoadEffect d n r b m (load e m (take n (compiled d r b out).output))
 demand_3 d n r b out bytes answered e m w =
     rw (compiled_written d n r b out answered) (stream_effect d n r b bytes (compiled_accepts d n r b out answered).0 e m w)

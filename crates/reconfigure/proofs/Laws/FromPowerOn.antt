@@ -1,10 +1,9 @@
 -- Demand 3's premise can be met, and from power-on the stream of any accepted layout does its steps.
 -- Power-on's record of every part is consistent and hunts, and its memory has the part's length: it waits for sync.
-use Rattle.std.specs.Prelude.{◌≡◌, refl, List, ℕ, ◌≤◌, length, replicate, take}
+use Rattle.std.specs.Prelude.{◌≡◌, refl, List, ℕ, ◌≤◌, length, replicate, take, Ok}
 use Rattle.std.proofs.lemmas.List.{length-replicate}
 use Rattle.parts.specs.Table.{memory_at}
 use Rattle.words.specs.Laws.ByteLists.{AreBytes}
-use Rattle.answers.specs.declared.Answer.TheVariants as Answer
 use Rattle.config.specs.declared.PartialWord.TheVariants as PartialWord
 use Rattle.record.specs.PowerOn.{fresh_control, fresh, power_on}
 use Rattle.record.specs.Laws.FreshRecord.{powered_so, fresh_consistent}
@@ -24,7 +23,7 @@ pub fresh_waits : (d : ℕ) (m : List ℕ) → d ≤ 7 → length m ≡ memory_a
 fresh_waits d m h room = rw (powered_so d m h room) (waits_fresh d h)
 
 -- and so demand 3 holds of it, with the steps done on a memory of zeros
-pub fresh_effect : (d n : ℕ) (r : FrameRange) (b out m : List ℕ) → AreBytes b → (compiled d r b out).answer ≡ Answer.Done n → length m ≡ memory_at d
+pub fresh_effect : (d n : ℕ) (r : FrameRange) (b out m : List ℕ) → AreBytes b → (compiled d r b out).answer ≡ Ok n → length m ≡ memory_at d
     → LoadEffect d n r b (replicate (memory_at d) 0) (load (power_on d m).«record» (power_on d m).memory (take n (compiled d r b out).output))
 fresh_effect d n r b out m bytes answered room =
     let known = (accepted d n r b (compiled_accepts d n r b out answered).0).known in

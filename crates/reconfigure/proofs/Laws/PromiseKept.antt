@@ -1,18 +1,15 @@
 -- A reconfiguration keeps its promise: where it is done, demand 3; where it is refused, nothing changed.
 -- By the cases of the definition, and demand 3 at the record's own device.
-use Rattle.std.specs.Prelude.{◌≡◌, refl, List, true, ℕ, eqb, length, take}
+use Rattle.std.specs.Prelude.{◌≡◌, refl, List, true, ℕ, eqb, length, take, Ok, Err}
 use Rattle.std.proofs.Common.{◌∙◌, sym, arith, eqb-true}
 use Rattle.std.proofs.Math.Path.{ap}
 use Rattle.parts.specs.Laws.Cases.{either}
 use Rattle.parts.specs.Table.{length_at, memory_at}
 use Rattle.parts.specs.FrameMemory.{frame_of}
 use Rattle.words.specs.Laws.ByteLists.{AreBytes}
-use Rattle.answers.specs.declared.Answer.{Answer}
-use Rattle.answers.specs.declared.Answer.TheVariants as Answer
 use Rattle.config.specs.PhaseTests.{is_hunting}
 use Rattle.config.specs.declared.PartialWord.{PartialWord}
 use Rattle.config.specs.declared.Phase.{Phase}
-use Rattle.config.specs.declared.Phase.TheVariants as Phase
 use Rattle.record.specs.Consistency.{consistent}
 use Rattle.record.specs.declared.Record.{Record}
 use Rattle.layout.specs.declared.FrameRange.{FrameRange}
@@ -22,6 +19,7 @@ use Rattle.loader.specs.Load.{load}
 use Rattle.reconfigure.proofs.Laws.Demand3.{AwaitsSync, stream_effect}
 use Rattle.reconfigure.specs.Reconfigured.{Reconfigured, reconfigured_after, reconfigured}
 use Rattle.reconfigure.specs.Promise.{Promised}
+use Rattle.answers.specs.AnswerNumbers.{Answer}
 
 hunting_window : (p : Phase) → is_hunting p ≡ true → (b : PartialWord) × (p ≡ Phase.Hunting b)
 hunting_window (Phase.Hunting b) h = (b, refl)
@@ -38,9 +36,9 @@ module _ (e : Record) (m : List ℕ) (r : FrameRange) (b out : List ℕ) (bytes 
       record { part = refl; consistent = fits; window = w.0; hunting = w.1; buffer = full; memory = room }
 
   -- the compiler's output, loaded
-  pub accepted_so : (n : ℕ) → AwaitsSync e.control.device e m → (compiled e.control.device r b out).answer ≡ Answer.Done n
+  pub accepted_so : (n : ℕ) → AwaitsSync e.control.device e m → (compiled e.control.device r b out).answer ≡ Ok n
       → let o = load e m (take n (compiled e.control.device r b out).output) in reconfigured_after e m r b out (compiled e.control.device r b out).answer
-      ≡ record { «record» = o.«record»; memory = o.memory; output = (compiled e.control.device r b out).output; answer = Answer.Done n }
+      ≡ record { «record» = o.«record»; memory = o.memory; output = (compiled e.control.device r b out).output; answer = Ok n }
   unfolding reconfigured_after
   accepted_so n w answered =
       let told = compiled_accepts e.control.device n r b out answered in
@@ -52,7 +50,7 @@ module _ (e : Record) (m : List ℕ) (r : FrameRange) (b out : List ℕ) (bytes 
 
   after_keeps : AwaitsSync e.control.device e m → (v : Answer) → (compiled e.control.device r b out).answer ≡ v → KeepsPromise (reconfigured_after e m r b out v)
   unfolding reconfigured_after
-  after_keeps w (Answer.Done n) v =
+  after_keeps w (Ok n) v =
       let does = stream_effect e.control.device n r b bytes (compiled_accepts e.control.device n r b out v).0 e m w in
       record {
         part = does.effect.part;
@@ -62,7 +60,7 @@ module _ (e : Record) (m : List ℕ) (r : FrameRange) (b out : List ℕ) (bytes 
         memory = refl;
         outside = λ k o. ap (frame_of (length_at e.control.device) k) (sym does.effect.memory) ∙ does.effect.outside k o;
       }
-  after_keeps w (Answer.Refused c at) v = (refl, refl)
+  after_keeps w (Err e) v = (refl, refl)
 
   pub promised : KeepsPromise (reconfigured e m r b out)
   unfolding reconfigured

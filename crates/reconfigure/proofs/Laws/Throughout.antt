@@ -1,7 +1,7 @@
 -- At every byte of a stream, not at its end alone, each frame outside the range has the bytes that it had.
 -- What a run stores does not depend on the memory. So the stream, begun anew on the memory that a part of it left, ends with the same
 -- frame as from the memory before; and at its end a frame outside the range is as it was at the start, of both.
-use Rattle.std.specs.Prelude.{◌≡◌, refl, ◌≢◌, List, [], ◌∷◌, ◌++◌, Bool, true, false, ℕ, ◌+◌, ◌*◌, ◌≤◌, length, take, set, eqb}
+use Rattle.std.specs.Prelude.{◌≡◌, refl, ◌≢◌, List, [], ◌∷◌, ◌++◌, Bool, true, false, ℕ, ◌+◌, ◌*◌, ◌≤◌, length, take, set, eqb, Ok}
 use Rattle.std.proofs.Common.{◌∙◌, sym, ap, arith, length-set}
 use Rattle.std.proofs.Math.Decide.{dec_le}
 use borrow.Author.Tests.{le-leb, lt-leb, eqb-true, eqb-false}
@@ -14,8 +14,6 @@ use Rattle.parts.specs.Laws.FramePlacing.{placed_length, placed_reads_back, plac
 use Rattle.config.specs.PhaseTests.{is_stopped}
 use Rattle.config.proofs.Laws.StaysSet.{byte_keeps}
 use Rattle.config.specs.declared.Event.{Event}
-use Rattle.config.specs.declared.Event.TheVariants as Event
-use Rattle.answers.specs.declared.Answer.TheVariants as Answer
 use Rattle.record.specs.declared.Record.{Record}
 use Rattle.layout.specs.Ownership.{owns}
 use Rattle.layout.specs.Layout.{check}
@@ -118,7 +116,7 @@ run_blind d m m' (y ∷ ys) = go (is_stopped d.phase) refl (run_blind (next d y)
 
 -- ---- any part of a stream
 
-module _ (d n : ℕ) (r : FrameRange) (b : List ℕ) (bytes : AreBytes b) (taken : check d r b ≡ Answer.Done n) (e : Record) where
+module _ (d n : ℕ) (r : FrameRange) (b : List ℕ) (bytes : AreBytes b) (taken : check d r b ≡ Ok n) (e : Record) where
   -- the run of the stream, of any memory
   ended_as : (m : List ℕ) (k : ℕ) → AwaitsSync d e m → owns r k ≡ false → frame_of (length_at d) k (run e m (stream_for d r b)).memory ≡ frame_of (length_at d) k m
   ended_as m k w out =

@@ -3,24 +3,21 @@
 use mathlib.Core.Path.{◌≡◌, ◌∙◌, refl, sym}
 use mathlib.Core.Logic.{◌≢◌}
 use mathlib.Core.Bool.{true}
-use Prim.Native.Nat.{ℕ, ◌≤◌}
+use Prim.Native.Nat.{ℕ}
 use native.Mathlib.Omega.{arith}
-use Rattle.std.specs.Prelude.{List, take}
+use Rattle.std.specs.Prelude.{List, take, Ok}
 use Rattle.record.specs.declared.Record.{Record}
 use Rattle.layout.specs.declared.FrameRange.{FrameRange}
 use Rattle.loader.specs.Load.{load}
 use lib.ListN.{length}
 use lib.Seq.{length-take-le}
 use borrow.Author.Rules.{rules}
-use borrow.Author.Tests.{not-true, not-false}
 use Rattle.words.specs.Laws.ByteLists.{AreBytes, all_bytes}
 use Rattle.config.specs.PhaseTests.{is_hunting}
 use Rattle.parts.specs.Table.{memory_at}
-use Rattle.answers.specs.declared.Answer.TheVariants as Answer
 use Rattle.record.specs.Consistency.{consistent}
 use Rattle.compiler.specs.Compiled.{Compiled, compiled}
 use Rattle.compiler.proofs.Laws.CompilerAnswer.{compiled_accepts, refused_keeps}
-use Rattle.reconfigure.proofs.Laws.Demand3.{AwaitsSync}
 use Rattle.reconfigure.specs.Reconfigured.{Reconfigured, unchanged, reconfigured_after, reconfigured}
 use Rattle.reconfigure.proofs.Laws.AnswerCases.{inconsistent_so, wrong_memory_so, not_hunting_so, compiled_so, refused_so}
 use Rattle.reconfigure.specs.Promise.{Promised}
@@ -46,30 +43,30 @@ module _ (e : Record) (m : List ℕ) (r : FrameRange) (b out : List ℕ) (bytes 
     judged = compiled_so e m r b out fits sized hunts
 
     -- where the compiler accepts
-    done : (n : ℕ) → written.answer ≡ Answer.Done n
+    done : (n : ℕ) → written.answer ≡ Ok n
         → whole ≡ record {
           «record» = (load e m (take n written.output)).«record»;
           memory = (load e m (take n written.output)).memory;
           output = written.output;
-          answer = Answer.Done n;
+          answer = Ok n;
         }
     done n accepts =
         judged ∙ accepted_so e m r b out bytes full n (awaits_sync e m r b out bytes full fits sized hunts) accepts
 
     -- where it refuses
-    refuses : ((n : ℕ) → written.answer ≢ Answer.Done n) → whole ≡ unchanged e m r b out written.answer
+    refuses : ((n : ℕ) → written.answer ≢ Ok n) → whole ≡ unchanged e m r b out written.answer
     refuses never = judged ∙ refused_so e m r b out written.answer never
 
 pub slice_bounds-load-end : goal.slice_bounds-load-end
 slice_bounds-load-end c =
     let a = c.args in
-    let accepts = sym c.compile-answer.ensures.value ∙ c.in-Done.is in
+    let accepts = sym c.compile-answer.ensures.value ∙ c.in-Ok.is in
     rw c.compile-answer.auto.output (compiled_accepts a.«record».control.device _ a.range a.layout.now a.output.now accepts).1
 
-pub slice_bounds-load-end-in-Done : goal.slice_bounds-load-end-in-Done
-slice_bounds-load-end-in-Done c =
+pub slice_bounds-load-end-2 : goal.slice_bounds-load-end-2
+slice_bounds-load-end-2 c =
     let a = c.args in
-    let accepts = sym c.compile-answer.ensures.value ∙ c.in-Done.is in
+    let accepts = sym c.compile-answer.ensures.value ∙ c.in-Ok.is in
     let room = (compiled_accepts a.«record».control.device _ a.range a.layout.now a.output.now accepts).1 in
     sym (length-take-le _ _ (rw c.compile-answer.auto.output room))
 
@@ -117,44 +114,42 @@ returns-then-not-is_hunting c =
       promised = rw (r.answer_value, r.record_value) t.4;
     }
 
-pub returns-in-Done : goal.returns-in-Done
-returns-in-Done c =
+pub returns : goal.returns
+returns c =
     let a = c.args in
-    let r = c.answered.ensures in
     let l = c.load-loaded in
     let bytes = all_bytes a.layout.now (λ i. omega (arith, c.type_inv.layout i)) in
     let fits = sym c.consistent.ensures ∙ c.if-not-consistent.false in
     let sized = c.if-memory-memory_at.false ∙ c.memory_at.ensures in
     let hunts = sym c.is_hunting.ensures ∙ c.if-not-is_hunting.false in
-    let accepts = sym c.compile-answer.ensures.value ∙ c.in-Done.is in
-    let made = done a.«record» a.memory.now a.range a.layout.now a.output.now bytes (search rules) fits sized hunts c.in-Done.length accepts in
+    let accepts = sym c.compile-answer.ensures.value ∙ c.in-Ok.is in
+    let made = done a.«record» a.memory.now a.range a.layout.now a.output.now bytes (search rules) fits sized hunts c.in-Ok.length accepts in
     let t = told a.«record» a.memory.now a.range a.layout.now a.output.now bytes (search rules) _ made in
     let w = c.compile-answer.ensures.output_after in
     record {
-      answer_value = r.answer_value ∙ t.0;
-      record_value = r.record_value ∙ rw w at l.ensures.record_value ∙ t.1;
+      answer_value = t.0;
+      record_value = rw w at l.ensures.record_value ∙ t.1;
       memory_after = rw w at l.ensures.memory_after ∙ t.2;
       output_after = w ∙ t.3;
-      promised = rw (r.answer_value, r.record_value, l.ensures.record_value, l.ensures.memory_after, w) t.4;
+      promised = rw (l.ensures.record_value, l.ensures.memory_after, w) t.4;
     }
 
-pub returns : goal.returns
-returns c =
+pub returns-in_default : goal.returns-in_default
+returns-in_default c =
     let a = c.args in
-    let r = c.answered-2.ensures in
     let bytes = all_bytes a.layout.now (λ i. omega (arith, c.type_inv.layout i)) in
     let fits = sym c.consistent.ensures ∙ c.if-not-consistent.false in
     let sized = c.if-memory-memory_at.false ∙ c.memory_at.ensures in
     let hunts = sym c.is_hunting.ensures ∙ c.if-not-is_hunting.false in
     let v = c.compile-answer.ensures.value in
-    let never : (n : ℕ) → (compiled a.«record».control.device a.range a.layout.now a.output.now).answer ≢ Answer.Done n
-    = λ n e. c.in_default.not-Done n (v ∙ e) in
+    let never : (n : ℕ) → (compiled a.«record».control.device a.range a.layout.now a.output.now).answer ≢ Ok n
+    = λ n e. c.in_default.not-Ok n (v ∙ e) in
     let made = refuses a.«record» a.memory.now a.range a.layout.now a.output.now bytes (search rules) fits sized hunts never in
     let t = told a.«record» a.memory.now a.range a.layout.now a.output.now bytes (search rules) _ made in
     record {
-      answer_value = r.answer_value ∙ v ∙ t.0;
-      record_value = r.record_value ∙ t.1;
+      answer_value = v ∙ t.0;
+      record_value = t.1;
       memory_after = t.2;
       output_after = c.compile-answer.ensures.output_after ∙ refused_keeps a.«record».control.device a.range a.layout.now a.output.now never ∙ t.3;
-      promised = rw (r.answer_value, r.record_value, v) t.4;
+      promised = rw v t.4;
     }

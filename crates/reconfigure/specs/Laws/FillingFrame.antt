@@ -1,6 +1,6 @@
 -- Where the words of a frame lead: those before the last fill the buffer, and the last ends the frame.
 -- Word by word; a whole frame by induction over its words, whatever its last word does.
-use Rattle.std.specs.Prelude.{◌≡◌, List, [], ◌∷◌, Bool, ℕ, ◌+◌, ◌-◌, ◌*◌, ◌^◌, ◌≤◌, ◌<◌, length, take}
+use Rattle.std.specs.Prelude.{◌≡◌, List, [], ◌∷◌, Bool, ℕ, ◌+◌, ◌-◌, ◌*◌, ◌^◌, ◌≤◌, ◌<◌, length, take, Option, Some, None}
 use Rattle.std.proofs.Common.{◌∙◌, arith, length-set, le-leb, le-ltb}
 use Rattle.std.proofs.Math.Path.{refl, ap}
 use Rattle.std.proofs.Math.Bool.{true}
@@ -14,13 +14,10 @@ use Rattle.words.specs.WordsInBytes.{bytes_of}
 use Rattle.parts.specs.FrameMemory.{placed}
 use Rattle.registers.specs.RegisterAddresses.{address_of}
 use Rattle.registers.specs.declared.Register.TheVariants as Register
-use Rattle.config.specs.declared.Open.TheVariants as Open
 use Rattle.config.specs.RegisterWrites.{fed_crc, hold}
 use Rattle.config.specs.ControlState.{transition, with_flags, with_current, raised}
 use Rattle.config.specs.DataWords.{ended, put, checked, stepped, frame_stored, fdri_word, data_word, word}
 use Rattle.config.specs.declared.Control.{Control}
-use Rattle.config.specs.declared.Current.{Current}
-use Rattle.config.specs.declared.Current.TheVariants as Current
 use Rattle.config.specs.declared.Phase.TheVariants as Phase
 use Rattle.config.specs.declared.Event.TheVariants as Event
 use Rattle.loader.specs.EventEffects.{buffered, store_within, stored}
@@ -29,16 +26,16 @@ use Rattle.reconfigure.specs.Laws.RegisterPackets.{passed}
 use Rattle.reconfigure.specs.Laws.RecordView.{View, stands, waiting, moved, word_reaches, ReachesView}
 
 -- in an FDRI packet, with words left and words of the frame filled
-abbrev pub filling : ℕ → ℕ → ℕ → ℕ → ℕ → Current → Bool → List ℕ → View
+abbrev pub filling : ℕ → ℕ → ℕ → ℕ → ℕ → Option ℕ → Bool → List ℕ → View
 filling left filled = stands (Phase.Data Register.Fdri left filled)
 
 -- at the auto CRC word
-abbrev pub checking : ℕ → ℕ → ℕ → Current → Bool → List ℕ → View
+abbrev pub checking : ℕ → ℕ → ℕ → Option ℕ → Bool → List ℕ → View
 checking = stands Phase.Crc
 
 -- ---- what the control machine makes of a word that completes a frame
 
-stores : (left filled : ℕ) (c : Control) (w n : ℕ) → 1 < left → filled + 1 ≡ length_at c.device → c.current ≡ Current.Frame n
+stores : (left filled : ℕ) (c : Control) (w n : ℕ) → 1 < left → filled + 1 ≡ length_at c.device → c.current ≡ Some n
     → word (Phase.Data Register.Fdri left filled) c w
     ≡ transition (Phase.Data Register.Fdri (left - 1) 0) (with_current (stepped c.device n) (put Register.Fdri w c)) (Event.KeepAndStore filled w n)
 unfolding word data_word fdri_word frame_stored
@@ -57,7 +54,7 @@ kept_words l i w f buffer h e = take-set-lt l f i w h ∙ ap (λ (xs : List ℕ)
 
 module _ (d v k left filled w : ℕ) (b : Bool) (buffer m : List ℕ) (small : w < 2 ^ 32) where
   -- it only fills
-  pub fill_word : (n : Current) → 1 < left → filled + 1 < length_at d
+  pub fill_word : (n : Option ℕ) → 1 < left → filled + 1 < length_at d
       → ReachesView (filling left filled d v k n b buffer) m (w ∷ []) (filling (left - 1) (filled + 1) d (feed v 2 w) k n b (set buffer filled w)) m
   unfolding fed_words last_of hold fed_crc address_of buffered stored
   fill_word n hl hf =
@@ -75,7 +72,7 @@ module _ (d v k left filled w : ℕ) (b : Bool) (buffer m : List ℕ) (small : w
 
   -- it completes a frame that is stored
   pub store_word : (n : ℕ) → 1 < left → filled + 1 ≡ length_at d → 4 * length_at d * n + 4 * length_at d ≤ length m
-      → ReachesView (filling left filled d v k (Current.Frame n) b buffer) m (w ∷ [])
+      → ReachesView (filling left filled d v k (Some n) b buffer) m (w ∷ [])
       (filling (left - 1) 0 d (feed v 2 w) k (stepped d n) b (set buffer filled w)) (placed (length_at d) n (bytes_of (set buffer filled w)) m)
   unfolding hold fed_crc address_of buffered stored store_within
   store_word n hl hf fits =
@@ -95,7 +92,7 @@ module _ (d v k left filled w : ℕ) (b : Bool) (buffer m : List ℕ) (small : w
       }
 
   -- it completes the packet's last frame, which is in hand from here on
-  pub last_word : (n : Current) → left ≡ 1 → filled < length_at d
+  pub last_word : (n : Option ℕ) → left ≡ 1 → filled < length_at d
       → ReachesView (filling left filled d v k n b buffer) m (w ∷ []) (checking d (feed v 2 w) k n true (set buffer filled w)) m
   unfolding hold fed_crc raised address_of buffered stored
   last_word n hl hf =
@@ -112,15 +109,15 @@ module _ (d v k left filled w : ℕ) (b : Bool) (buffer m : List ℕ) (small : w
       }
 
 -- the auto CRC word, which passes
-pub auto_reaches : (d v k : ℕ) (n : Current) (b : Bool) (buffer m : List ℕ) → ReachesView (checking d v k n b buffer) m (check_word v ∷ []) (waiting d 0 k n b buffer) m
+pub auto_reaches : (d v k : ℕ) (n : Option ℕ) (b : Bool) (buffer m : List ℕ) → ReachesView (checking d v k n b buffer) m (check_word v ∷ []) (waiting d 0 k n b buffer) m
 unfolding word checked raised address_of buffered stored
 auto_reaches d v k n b buffer m =
     record {
       from = λ e h.
           record {
-            next = record { phase = Phase.Header Open.Closed; control = passed e.control; frame = e.frame };
-            reaches = word_reaches e m (check_word v) (transition (Phase.Header Open.Closed) (passed e.control) Event.Nothing) h refl (omega (arith, check_word_small v))
+            next = record { phase = Phase.Header None; control = passed e.control; frame = e.frame };
+            reaches = word_reaches e m (check_word v) (transition (Phase.Header None) (passed e.control) Event.Nothing) h refl (omega (arith, check_word_small v))
                 (rw (ap (λ (s : View). s.crc) h, check_word_passes v));
-            seen = ap (λ (s : View). moved (Phase.Header Open.Closed) 0 s.cmd s.current s.valid s.words s) h;
+            seen = ap (λ (s : View). moved (Phase.Header None) 0 s.cmd s.current s.valid s.words s) h;
           };
     }

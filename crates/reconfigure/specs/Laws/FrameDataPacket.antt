@@ -1,6 +1,6 @@
 -- Where an FDRI packet leads, with its two headers and its auto CRC word: frames stored one after the other, a last one in hand.
 -- By induction over the frames that are stored; each stands at the frame after the one before it.
-use Rattle.std.specs.Prelude.{◌≡◌, refl, Bool}
+use Rattle.std.specs.Prelude.{◌≡◌, refl, Bool, Option, Some, None}
 use Rattle.std.proofs.Common.{◌∙◌, ap, arith, length-append, ne_eqb, lt-ltb}
 use mathlib.Core.List.{List, [], ◌∷◌, ◌++◌}
 use Rattle.std.proofs.Math.Bool.{true}
@@ -19,13 +19,10 @@ use Rattle.parts.specs.Laws.FramePlacing.{frame_end, placed_length}
 use Rattle.registers.specs.RegisterAddresses.{address_of}
 use Rattle.registers.specs.Laws.AddressLookup.{register_address}
 use Rattle.registers.specs.declared.Register.TheVariants as Register
-use Rattle.config.specs.declared.Open.TheVariants as Open
 use Rattle.config.specs.ControlState.{transition}
 use Rattle.config.specs.PacketHeaders.{ready, counted, begin, type_one_write, obeyed}
 use Rattle.config.specs.DataWords.{stepped, word}
 use Rattle.config.specs.declared.Control.{Control}
-use Rattle.config.specs.declared.Current.{Current}
-use Rattle.config.specs.declared.Current.TheVariants as Current
 use Rattle.config.specs.declared.Phase.TheVariants as Phase
 use Rattle.config.specs.declared.Event.TheVariants as Event
 use Rattle.layout.specs.Laws.AcceptedSteps.{Sized}
@@ -42,32 +39,32 @@ use Rattle.reconfigure.specs.Laws.StoredFrames.{stored_frame, last_frame}
 
 -- ---- the two headers
 
-first_header : (c : Control) → word (Phase.Header Open.Closed) c (header1 Register.Fdri 0) ≡ transition (Phase.Header (Open.After Register.Fdri)) c Event.Nothing
+first_header : (c : Control) → word (Phase.Header None) c (header1 Register.Fdri 0) ≡ transition (Phase.Header (Some Register.Fdri)) c Event.Nothing
 unfolding word obeyed type_one_write address_of
-first_header c = simp (header_one Register.Fdri 0 (omega arith) Open.Closed, register_address Register.Fdri)
+first_header c = simp (header_one Register.Fdri 0 (omega arith) None, register_address Register.Fdri)
 
 second_header : (c : Control) (q : ℕ) → 0 < q → q < 2 ^ 27 → c.flags.idcode_ok ≡ true → c.flags.flr_ok ≡ true → c.registers.cmd ≡ 1
-    → q % length_at c.device ≡ 0 → word (Phase.Header (Open.After Register.Fdri)) c (header2 q) ≡ transition (Phase.Data Register.Fdri q 0) c Event.Nothing
+    → q % length_at c.device ≡ 0 → word (Phase.Header (Some Register.Fdri)) c (header2 q) ≡ transition (Phase.Data Register.Fdri q 0) c Event.Nothing
 unfolding word obeyed begin ready counted address_of
 second_header c q positive small idcode flr cmd whole = simp (header_two Register.Fdri q small, ne_eqb q 0 (omega arith), idcode, flr, cmd, whole)
 
 -- the headers begin a packet of q words, which are whole frames
-headers_lead : (d v q : ℕ) (n : Current) (b : Bool) (buffer m : List ℕ) → 0 < q → q < 2 ^ 27 → q % length_at d ≡ 0
+headers_lead : (d v q : ℕ) (n : Option ℕ) (b : Bool) (buffer m : List ℕ) → 0 < q → q < 2 ^ 27 → q % length_at d ≡ 0
     → ReachesView (waiting d v 1 n b buffer) m (header1 Register.Fdri 0 ∷ header2 q ∷ []) (filling q 0 d v 1 n b buffer) m
 unfolding buffered stored
 headers_lead d v q n b buffer m positive small whole = view_on one two
   where
-    one : ReachesView (waiting d v 1 n b buffer) m (header1 Register.Fdri 0 ∷ []) (stands (Phase.Header (Open.After Register.Fdri)) d v 1 n b buffer) m
+    one : ReachesView (waiting d v 1 n b buffer) m (header1 Register.Fdri 0 ∷ []) (stands (Phase.Header (Some Register.Fdri)) d v 1 n b buffer) m
     one = record {
       from = λ e h.
           record {
-            next = record { phase = Phase.Header (Open.After Register.Fdri); control = e.control; frame = e.frame };
+            next = record { phase = Phase.Header (Some Register.Fdri); control = e.control; frame = e.frame };
             reaches = word_reaches e m (header1 Register.Fdri 0) _ h refl (header_fits Register.Fdri 0 (omega arith)) (first_header e.control);
-            seen = ap (λ (s : View). moved (Phase.Header (Open.After Register.Fdri)) s.crc s.cmd s.current s.valid s.words s) h;
+            seen = ap (λ (s : View). moved (Phase.Header (Some Register.Fdri)) s.crc s.cmd s.current s.valid s.words s) h;
           };
     }
 
-    two : ReachesView (stands (Phase.Header (Open.After Register.Fdri)) d v 1 n b buffer) m (header2 q ∷ []) (filling q 0 d v 1 n b buffer) m
+    two : ReachesView (stands (Phase.Header (Some Register.Fdri)) d v 1 n b buffer) m (header2 q ∷ []) (filling q 0 d v 1 n b buffer) m
     two = record {
       from = λ e h.
           let device : e.control.device ≡ d = ap (λ (s : View). s.device) h in
@@ -82,7 +79,7 @@ headers_lead d v q n b buffer m positive small whole = view_on one two
 -- ---- frames that are stored one after the other
 
 -- the current frame after them, from frame n on
-unfoldable pub reached : ℕ → ℕ → Current → List (List ℕ) → Current
+unfoldable pub reached : ℕ → ℕ → Option ℕ → List (List ℕ) → Option ℕ
 reached d n c [] = c
 reached d n c (x ∷ xs) = reached d (n + 1) (stepped d n) xs
 
@@ -92,9 +89,9 @@ held l buffer [] = buffer
 held l buffer (x ∷ xs) = held l (words_from l x) xs
 
 -- the first of them has a frame to stand at
-abbrev pub Aims : ℕ → Current → List (List ℕ) → Type 0
+abbrev pub Aims : ℕ → Option ℕ → List (List ℕ) → Type 0
 Aims n c [] = Unit {0}
-Aims n c (x ∷ xs) = c ≡ Current.Frame n
+Aims n c (x ∷ xs) = c ≡ Some n
 
 aims_next : (d n : ℕ) (xs : List (List ℕ)) → n + suc (length xs) ≤ count_at d → Aims (n + 1) (stepped d n) xs
 unfolding stepped
@@ -109,7 +106,7 @@ held_length l buffer (x ∷ xs) h = held_length l (words_from l x) xs (words_len
 module _ (d k : ℕ) (b : Bool) (positive : 0 < length_at d) where
   -- one of them, with j words after it
   one_frame : (v j n : ℕ) (x buffer m : List ℕ) → 0 < j → n < count_at d → AreBytes x → length x ≡ 4 * length_at d → length buffer ≡ length_at d → length m ≡ 4 * length_at d * count_at d
-      → ReachesView (filling (j + length_at d) 0 d v k (Current.Frame n) b buffer) m (words_from (length_at d) x)
+      → ReachesView (filling (j + length_at d) 0 d v k (Some n) b buffer) m (words_from (length_at d) x)
       (filling j 0 d (fed_words v 2 (words_from (length_at d) x)) k (stepped d n) b (words_from (length_at d) x)) (placed (length_at d) n x m)
   one_frame v j n x buffer m more inside bytes size full room =
       rw (bytes_words (length_at d) x bytes size) at
@@ -117,11 +114,11 @@ module _ (d k : ℕ) (b : Bool) (positive : 0 < length_at d) where
       (omega (arith, frame_end (length_at d) n (count_at d) inside)))
 
   -- none of them, and one with the others after it
-  no_frames : (v j : ℕ) (c : Current) (buffer m : List ℕ) → ReachesView (filling (j + 0 * length_at d) 0 d v k c b buffer) m [] (filling j 0 d v k c b buffer) m
+  no_frames : (v j : ℕ) (c : Option ℕ) (buffer m : List ℕ) → ReachesView (filling (j + 0 * length_at d) 0 d v k c b buffer) m [] (filling j 0 d v k c b buffer) m
   no_frames v j c buffer m = let none : j + 0 * length_at d ≡ j = omega arith in rw none view_none
 
-  then_frames : (v j n : ℕ) (x buffer m : List ℕ) (xs : List (List ℕ)) (c c' : Current) (buffer' r : List ℕ) → 0 < j → n < count_at d → AreBytes x
-      → length x ≡ 4 * length_at d → length buffer ≡ length_at d → length m ≡ 4 * length_at d * count_at d → c ≡ Current.Frame n
+  then_frames : (v j n : ℕ) (x buffer m : List ℕ) (xs : List (List ℕ)) (c c' : Option ℕ) (buffer' r : List ℕ) → 0 < j → n < count_at d → AreBytes x
+      → length x ≡ 4 * length_at d → length buffer ≡ length_at d → length m ≡ 4 * length_at d * count_at d → c ≡ Some n
       → ReachesView (filling (j + length xs * length_at d) 0 d (fed_words v 2 (words_from (length_at d) x)) k (stepped d n) b (words_from (length_at d) x)) (placed (length_at d) n x m)
       (frames_words (length_at d) xs) (filling j 0 d (fed_words (fed_words v 2 (words_from (length_at d) x)) 2 (frames_words (length_at d) xs)) k c' b buffer') r
       → ReachesView (filling (j + suc (length xs) * length_at d) 0 d v k c b buffer) m (words_from (length_at d) x ++ frames_words (length_at d) xs)
@@ -135,7 +132,7 @@ module _ (d k : ℕ) (b : Bool) (positive : 0 < length_at d) where
       → length (placed (length_at d) n x m) ≡ 4 * length_at d * count_at d
   kept_room n x m inside size room = placed_length (length_at d) n x m (omega (arith, frame_end (length_at d) n (count_at d) inside)) size ∙ room
 
-  pub frames_lead : (fs : List (List ℕ)) (v j n : ℕ) (c : Current) (buffer m : List ℕ) → 0 < j → n + length fs ≤ count_at d → Aims n c fs → AllBytes fs → Sized (length_at d) fs
+  pub frames_lead : (fs : List (List ℕ)) (v j n : ℕ) (c : Option ℕ) (buffer m : List ℕ) → 0 < j → n + length fs ≤ count_at d → Aims n c fs → AllBytes fs → Sized (length_at d) fs
       → length buffer ≡ length_at d → length m ≡ 4 * length_at d * count_at d
       → ReachesView (filling (j + length fs * length_at d) 0 d v k c b buffer) m (frames_words (length_at d) fs)
       (filling j 0 d (fed_words v 2 (frames_words (length_at d) fs)) k (reached d n c fs) b (held (length_at d) buffer fs)) (frames_written (length_at d) n fs m)
@@ -148,7 +145,7 @@ module _ (d k : ℕ) (b : Bool) (positive : 0 < length_at d) where
 
 -- ---- the packet
 
-module _ (d v n : ℕ) (c : Current) (b : Bool) (fs : List (List ℕ)) (ws buffer m : List ℕ) (positive : 0 < length_at d) (full : length buffer ≡ length_at d)
+module _ (d v n : ℕ) (c : Option ℕ) (b : Bool) (fs : List (List ℕ)) (ws buffer m : List ℕ) (positive : 0 < length_at d) (full : length buffer ≡ length_at d)
     (room : length m ≡ 4 * length_at d * count_at d) (inside : n + length fs ≤ count_at d) (at : Aims n c fs) (bytes : AllBytes fs) (sized : Sized (length_at d) fs)
     (small : AreWords ws) (size : length ws ≡ length_at d) where
   abbrev all : List ℕ

@@ -1,6 +1,6 @@
 -- Where two zero words to MFWR lead: the frame in hand stands at the current frame, and the state is as it was but for the CRC.
 -- Word by word: the header begins the data, the first word is only fed, the second stores.
-use Rattle.std.specs.Prelude.{◌≡◌, List, true, ℕ, ◌+◌, ◌*◌, ◌≤◌, length}
+use Rattle.std.specs.Prelude.{◌≡◌, List, true, ℕ, ◌+◌, ◌*◌, ◌≤◌, length, Some, None}
 use Rattle.std.proofs.Math.Path.{refl, ap}
 use Rattle.std.proofs.Common.{arith, le-leb}
 use Rattle.crc16.specs.CrcRegister.{feed, fed_words}
@@ -10,14 +10,11 @@ use Rattle.parts.specs.FrameMemory.{placed}
 use Rattle.registers.specs.RegisterAddresses.{address_of}
 use Rattle.registers.specs.Laws.AddressLookup.{register_address}
 use Rattle.registers.specs.declared.Register.TheVariants as Register
-use Rattle.config.specs.declared.Open.TheVariants as Open
 use Rattle.config.specs.RegisterWrites.{fed_crc, hold}
 use Rattle.config.specs.ControlState.{transition}
 use Rattle.config.specs.PacketHeaders.{ready, counted, begin, type_one_write, obeyed}
 use Rattle.config.specs.DataWords.{ended, put, mfwr_stored, mfwr_word, data_word, word}
 use Rattle.config.specs.declared.Control.{Control}
-use Rattle.config.specs.declared.Current.{Current}
-use Rattle.config.specs.declared.Current.TheVariants as Current
 use Rattle.config.specs.declared.Phase.TheVariants as Phase
 use Rattle.config.specs.declared.Event.TheVariants as Event
 use Rattle.stream.specs.StreamPackets.{Packet, header1, crc_of, packet_words}
@@ -28,19 +25,19 @@ use Rattle.reconfigure.specs.Laws.RecordView.{View, waiting, moved, word_reaches
 
 -- the header begins the data
 multi_begins : (c : Control) → c.flags.idcode_ok ≡ true → c.flags.flr_ok ≡ true → c.registers.cmd ≡ 2 → c.flags.buffer_valid ≡ true
-    → word (Phase.Header Open.Closed) c (header1 Register.Mfwr 2) ≡ transition (Phase.Data Register.Mfwr 2 0) c Event.Nothing
+    → word (Phase.Header None) c (header1 Register.Mfwr 2) ≡ transition (Phase.Data Register.Mfwr 2 0) c Event.Nothing
 unfolding word obeyed type_one_write begin ready counted address_of
-multi_begins c idcode flr cmd valid = simp (header_one Register.Mfwr 2 (omega arith) Open.Closed, register_address Register.Mfwr, idcode, flr, cmd, valid)
+multi_begins c idcode flr cmd valid = simp (header_one Register.Mfwr 2 (omega arith) None, register_address Register.Mfwr, idcode, flr, cmd, valid)
 
 -- the second word stores the frame in hand
-multi_stores : (c : Control) (n : ℕ) → c.current ≡ Current.Frame n
-    → word (Phase.Data Register.Mfwr 1 0) c 0 ≡ transition (Phase.Header Open.Closed) (put Register.Mfwr 0 c) (Event.Store n)
+multi_stores : (c : Control) (n : ℕ) → c.current ≡ Some n
+    → word (Phase.Data Register.Mfwr 1 0) c 0 ≡ transition (Phase.Header None) (put Register.Mfwr 0 c) (Event.Store n)
 unfolding word data_word mfwr_word mfwr_stored ended address_of
 multi_stores c n at = simp at
 
 module _ (d v n : ℕ) (ws m : List ℕ) (fits : 4 * length_at d * n + 4 * length_at d ≤ length m) where
-  pub multi_reaches : ReachesView (waiting d v 2 (Current.Frame n) true ws) m (packet_words v Packet.MultiFrame)
-      (waiting d (crc_of v Packet.MultiFrame) 2 (Current.Frame n) true ws) (placed (length_at d) n (bytes_of ws) m)
+  pub multi_reaches : ReachesView (waiting d v 2 (Some n) true ws) m (packet_words v Packet.MultiFrame)
+      (waiting d (crc_of v Packet.MultiFrame) 2 (Some n) true ws) (placed (length_at d) n (bytes_of ws) m)
   unfolding packet_words crc_of fed_words word data_word mfwr_word hold fed_crc address_of buffered stored store_within
   multi_reaches =
       record {
@@ -58,8 +55,8 @@ module _ (d v n : ℕ) (ws m : List ℕ) (fits : 4 * length_at d * n + 4 * lengt
             let kept : store_within (length_at c.device) n e.frame m ≡ placed (length_at d) n (bytes_of ws) m
             = rw device (simp (le-leb _ _ fits, rw device at (ap (λ (s : View). s.words) h))) in
             record {
-              next = record { phase = Phase.Header Open.Closed; control = put Register.Mfwr 0 one; frame = e.frame };
+              next = record { phase = Phase.Header None; control = put Register.Mfwr 0 one; frame = e.frame };
               reaches = rw (← kept) (reaches_on begun (reaches_on first second));
-              seen = ap (λ (s : View). moved (Phase.Header Open.Closed) (feed (feed s.crc 10 0) 10 0) s.cmd s.current s.valid s.words s) h;
+              seen = ap (λ (s : View). moved (Phase.Header None) (feed (feed s.crc 10 0) 10 0) s.cmd s.current s.valid s.words s) h;
             };
       }

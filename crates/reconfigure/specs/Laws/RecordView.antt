@@ -1,16 +1,12 @@
 -- What a stream relies on between two packets, and words that lead from one such state to another.
 -- A state is a view of the record: it tells what the next packets depend on, and leaves all else open.
-use Rattle.std.specs.Prelude.{◌≡◌, List, [], ◌∷◌, ◌++◌, Bool, true, ℕ, ◌^◌, ◌<◌, length, take}
+use Rattle.std.specs.Prelude.{◌≡◌, List, [], ◌∷◌, ◌++◌, Bool, true, ℕ, ◌^◌, ◌<◌, length, take, Option, None}
 use Rattle.std.proofs.Common.{◌∙◌, ap}
 use Rattle.parts.specs.Table.{length_at}
 use Rattle.config.specs.PhaseTests.{takes_words}
-use Rattle.config.specs.declared.Open.TheVariants as Open
 use Rattle.config.specs.DataWords.{word}
 use Rattle.config.specs.declared.PartialWord.{PartialWord}
-use Rattle.config.specs.declared.PartialWord.TheVariants as PartialWord
-use Rattle.config.specs.declared.Current.{Current}
 use Rattle.config.specs.declared.Phase.{Phase}
-use Rattle.config.specs.declared.Phase.TheVariants as Phase
 use Rattle.config.specs.declared.Transition.{Transition}
 use Rattle.record.specs.declared.Record.{Record}
 use Rattle.loader.specs.Run.{record_after, memory_after}
@@ -25,7 +21,7 @@ pub record View : Type 0 where
   pub flr : Bool
   pub crc : ℕ
   pub cmd : ℕ
-  pub current : Current
+  pub current : Option ℕ
   pub valid : Bool
   pub words : List ℕ
   pub room : ℕ
@@ -46,7 +42,7 @@ view e = record {
 }
 
 -- a record of device d with IDCODE and FLR accepted, between two words
-abbrev pub stands : Phase → ℕ → ℕ → ℕ → Current → Bool → List ℕ → View
+abbrev pub stands : Phase → ℕ → ℕ → ℕ → Option ℕ → Bool → List ℕ → View
 stands phase d crc cmd current valid words = record {
   phase = phase;
   partial = PartialWord.Zero;
@@ -62,11 +58,11 @@ stands phase d crc cmd current valid words = record {
 }
 
 -- it waits for a header
-abbrev pub waiting : ℕ → ℕ → ℕ → Current → Bool → List ℕ → View
-waiting = stands (Phase.Header Open.Closed)
+abbrev pub waiting : ℕ → ℕ → ℕ → Option ℕ → Bool → List ℕ → View
+waiting = stands (Phase.Header None)
 
 -- the state with another phase, CRC, current frame and frame in hand
-abbrev pub moved : Phase → ℕ → ℕ → Current → Bool → List ℕ → View → View
+abbrev pub moved : Phase → ℕ → ℕ → Option ℕ → Bool → List ℕ → View → View
 moved phase crc cmd current valid words s = record {
   phase = phase;
   partial = s.partial;
@@ -82,7 +78,7 @@ moved phase crc cmd current valid words s = record {
 }
 
 -- a word leads where the control machine takes it
-pub word_reaches : {p : Phase} {d v k : ℕ} {n : Current} {b : Bool} {buffer : List ℕ} (e : Record) (m : List ℕ) (w : ℕ) (x : Transition) → view e ≡ stands p d v k n b buffer
+pub word_reaches : {p : Phase} {d v k : ℕ} {n : Option ℕ} {b : Bool} {buffer : List ℕ} (e : Record) (m : List ℕ) (w : ℕ) (x : Transition) → view e ≡ stands p d v k n b buffer
     → takes_words p ≡ true → w < 2 ^ 32 → word p e.control w ≡ x → Reaches e m (w ∷ []) (record_after x e) (memory_after x e m)
 word_reaches e m w x h takes small made =
     let phase = ap (λ (s : View). s.phase) h in

@@ -1,6 +1,6 @@
 -- Where a command, a frame address and a check word lead.
 -- By what the control machine makes of the word; WCFG and MFWR act on nothing, also at a FAR write.
-use Rattle.std.specs.Prelude.{◌≡◌, refl, List, Bool, ℕ, ◌^◌, ◌≤◌, ◌<◌}
+use Rattle.std.specs.Prelude.{◌≡◌, refl, List, Bool, ℕ, ◌^◌, ◌≤◌, ◌<◌, Option, None}
 use Rattle.std.proofs.Common.{◌∙◌, sym, arith, le-ltb}
 use Rattle.std.proofs.Math.Path.{ap, subst}
 use Rattle.crc16.specs.CrcRegister.{feed, check_word}
@@ -8,16 +8,13 @@ use Rattle.crc16.proofs.Laws.CheckWord.{check_word_passes, check_word_small}
 use Rattle.registers.specs.RegisterAddresses.{address_of}
 use Rattle.registers.specs.CommandCodes.{WCFG, MFWR, last_command}
 use Rattle.registers.specs.declared.Register.TheVariants as Register
-use Rattle.config.specs.declared.Open.TheVariants as Open
 use Rattle.config.specs.CurrentFrame.{named}
 use Rattle.config.specs.RegisterWrites.{with_crc, fed_crc, hold}
 use Rattle.config.specs.ControlState.{transition, with_registers, with_flags, with_current, raised}
 use Rattle.config.specs.Commands.{signalled, command_crc, command_phase, acted}
 use Rattle.config.specs.DataWords.{ended, onward, put, checked, far_word, cmd_word, data_word}
 use Rattle.config.specs.declared.Control.{Control}
-use Rattle.config.specs.declared.Current.{Current}
 use Rattle.config.specs.declared.Phase.{Phase}
-use Rattle.config.specs.declared.Phase.TheVariants as Phase
 use Rattle.config.specs.declared.Event.TheVariants as Event
 use Rattle.stream.specs.StreamPackets.{Packet, crc_of, packet_words}
 use Rattle.loader.specs.EventEffects.{buffered, stored}
@@ -44,13 +41,13 @@ unfolding acted signalled command_crc command_phase crc_of address_of
 mfwr_quiet = record { known = omega arith; idle = λ p c. refl; fed_on = λ v. refl }
 
 -- what the control machine makes of a command
-pub command_word : (k : ℕ) (c : Control) → k ≤ last_command → data_word Register.Cmd 1 0 c k ≡ acted k (Phase.Header Open.Closed) (put Register.Cmd k c)
+pub command_word : (k : ℕ) (c : Control) → k ≤ last_command → data_word Register.Cmd 1 0 c k ≡ acted k (Phase.Header None) (put Register.Cmd k c)
 unfolding data_word cmd_word onward ended address_of
 command_word k c known = simp (le-ltb last_command k known)
 
 -- ---- from a state to the next
 
-module _ (d v k : ℕ) (n : Current) (b : Bool) (ws m : List ℕ) where
+module _ (d v k : ℕ) (n : Option ℕ) (b : Bool) (ws m : List ℕ) where
   -- a command
   pub command_reaches : (j : ℕ) → Quiet j → ReachesView (waiting d v k n b ws) m (packet_words v (Packet.Command j)) (waiting d (crc_of v (Packet.Command j)) j n b ws) m
   unfolding packet_words hold fed_crc address_of buffered stored
@@ -58,10 +55,10 @@ module _ (d v k : ℕ) (n : Current) (b : Bool) (ws m : List ℕ) where
       record {
         from = λ e h.
             record {
-              next = record { phase = Phase.Header Open.Closed; control = put Register.Cmd j e.control; frame = e.frame };
+              next = record { phase = Phase.Header None; control = put Register.Cmd j e.control; frame = e.frame };
               reaches = write_reaches e m Register.Cmd j _ (refl, refl) (ap (λ (s : View). s.phase) h) (ap (λ (s : View). s.partial) h) (omega (arith, quiet.known))
-                  (command_word j e.control quiet.known ∙ quiet.idle (Phase.Header Open.Closed) (put Register.Cmd j e.control));
-              seen = rw (quiet.fed_on v) (ap (λ (s : View). moved (Phase.Header Open.Closed) (feed s.crc 4 j) j s.current s.valid s.words s) h);
+                  (command_word j e.control quiet.known ∙ quiet.idle (Phase.Header None) (put Register.Cmd j e.control));
+              seen = rw (quiet.fed_on v) (ap (λ (s : View). moved (Phase.Header None) (feed s.crc 4 j) j s.current s.valid s.words s) h);
             };
       }
 
@@ -75,9 +72,9 @@ module _ (d v k : ℕ) (n : Current) (b : Bool) (ws m : List ℕ) where
             let c = with_current (named e.control.device a) (put Register.Far a e.control) in
             let standing = subst Quiet (sym (ap (λ (s : View). s.cmd) h)) quiet in
             record {
-              next = record { phase = Phase.Header Open.Closed; control = c; frame = e.frame };
-              reaches = write_reaches e m Register.Far a (transition (Phase.Header Open.Closed) c Event.Nothing) (refl, refl) (ap (λ (s : View). s.phase) h) (ap (λ (s : View). s.partial) h) small (standing.idle (Phase.Header Open.Closed) c);
-              seen = ap (λ (s : View). moved (Phase.Header Open.Closed) (feed s.crc 1 a) s.cmd (named s.device a) s.valid s.words s) h;
+              next = record { phase = Phase.Header None; control = c; frame = e.frame };
+              reaches = write_reaches e m Register.Far a (transition (Phase.Header None) c Event.Nothing) (refl, refl) (ap (λ (s : View). s.phase) h) (ap (λ (s : View). s.partial) h) small (standing.idle (Phase.Header None) c);
+              seen = ap (λ (s : View). moved (Phase.Header None) (feed s.crc 1 a) s.cmd (named s.device a) s.valid s.words s) h;
             };
       }
 
@@ -88,9 +85,9 @@ module _ (d v k : ℕ) (n : Current) (b : Bool) (ws m : List ℕ) where
       record {
         from = λ e h.
             record {
-              next = record { phase = Phase.Header Open.Closed; control = passed e.control; frame = e.frame };
-              reaches = write_reaches e m Register.Crc (check_word v) (transition (Phase.Header Open.Closed) (passed e.control) Event.Nothing) (refl, refl) (ap (λ (s : View). s.phase) h) (ap (λ (s : View). s.partial) h) (omega (arith, check_word_small v))
+              next = record { phase = Phase.Header None; control = passed e.control; frame = e.frame };
+              reaches = write_reaches e m Register.Crc (check_word v) (transition (Phase.Header None) (passed e.control) Event.Nothing) (refl, refl) (ap (λ (s : View). s.phase) h) (ap (λ (s : View). s.partial) h) (omega (arith, check_word_small v))
                   (rw (ap (λ (s : View). s.crc) h, check_word_passes v));
-              seen = ap (λ (s : View). moved (Phase.Header Open.Closed) 0 s.cmd s.current s.valid s.words s) h;
+              seen = ap (λ (s : View). moved (Phase.Header None) 0 s.cmd s.current s.valid s.words s) h;
             };
       }

@@ -1,6 +1,6 @@
 -- Where the packets of a step lead, and those of a list of steps: the memory is what the steps make of it.
 -- Packet by packet; targets and steps by induction.
-use Rattle.std.specs.Prelude.{◌≡◌, refl, Bool, ℕ, ◌+◌, ◌*◌, ◌^◌, ◌≤◌, ◌<◌, length}
+use Rattle.std.specs.Prelude.{◌≡◌, refl, Bool, ℕ, ◌+◌, ◌*◌, ◌^◌, ◌≤◌, ◌<◌, length, Option, Some}
 use Rattle.std.proofs.Common.{◌∙◌, ap, subst, arith}
 use mathlib.Core.List.{List, [], ◌∷◌, ◌++◌}
 use Rattle.std.proofs.Math.Bool.{true}
@@ -16,8 +16,6 @@ use Rattle.answers.specs.AnswerNumbers.{answer_value}
 use Rattle.parts.specs.FrameAddress.{address_at}
 use Rattle.parts.proofs.Laws.FrameNumbers.{number_address_number, address_fits, has_address}
 use Rattle.config.specs.CurrentFrame.{current_from, named}
-use Rattle.config.specs.declared.Current.{Current}
-use Rattle.config.specs.declared.Current.TheVariants as Current
 use Rattle.layout.specs.Step.{Step, FrameWrite, MultiFrameWrite}
 use Rattle.layout.specs.Laws.AcceptedSteps.{FitsWrite, FitsMulti, Fits, AllFit, Targets}
 use Rattle.layout.specs.Laws.ByteFrames.{ByteStep, ByteSteps}
@@ -46,7 +44,7 @@ no_packets v = view_none
 -- ---- a frame's address makes the frame the current one
 
 record Named (d n : ℕ) : Type 0 where
-  names : named d (address_at d n) ≡ Current.Frame n
+  names : named d (address_at d n) ≡ Some n
   small : address_at d n < 2 ^ 32
 
 frame_named : (d n : ℕ) → d ≤ 7 → n < count_at d → Named d n
@@ -59,11 +57,11 @@ frame_named d n known inside =
     record { names = rw a (ap current_from (number_address_number d n found.0 found.1)); small = omega (arith, fits, a) }
 
 module _ (d : ℕ) (known : d ≤ 7) where
-  far_reaches : (v k n : ℕ) (c : Current) (b : Bool) (buffer m : List ℕ) → Quiet k → n < count_at d
-      → ReachesView (waiting d v k c b buffer) m (packet_words v (to_frame d n)) (waiting d (crc_of v (to_frame d n)) k (Current.Frame n) b buffer) m
+  far_reaches : (v k n : ℕ) (c : Option ℕ) (b : Bool) (buffer m : List ℕ) → Quiet k → n < count_at d
+      → ReachesView (waiting d v k c b buffer) m (packet_words v (to_frame d n)) (waiting d (crc_of v (to_frame d n)) k (Some n) b buffer) m
   far_reaches v k n c b buffer m quiet inside =
       let f = frame_named d n known inside in
-      subst (λ (at : Current). ReachesView (waiting d v k c b buffer) m (packet_words v (to_frame d n)) (waiting d (crc_of v (to_frame d n)) k at b buffer) m) f.names
+      subst (λ (at : Option ℕ). ReachesView (waiting d v k c b buffer) m (packet_words v (to_frame d n)) (waiting d (crc_of v (to_frame d n)) k at b buffer) m) f.names
       (address_reaches d v k c b buffer m (address_at d n) quiet f.small)
 
   -- ---- targets, with the frame in hand
@@ -73,9 +71,9 @@ module _ (d : ℕ) (known : d ≤ 7) where
   fits n m inside room = omega (arith, frame_end (length_at d) n (count_at d) inside)
 
   -- the current frame after targets
-  unfoldable last_of : Current → List ℕ → Current
+  unfoldable last_of : Option ℕ → List ℕ → Option ℕ
   last_of c [] = c
-  last_of c (t ∷ ts) = last_of (Current.Frame t) ts
+  last_of c (t ∷ ts) = last_of (Some t) ts
 
   module _ (x : List ℕ) (bytes : AreBytes x) (size : length x ≡ 4 * length_at d) where
     abbrev buffer : List ℕ
@@ -83,46 +81,46 @@ module _ (d : ℕ) (known : d ≤ 7) where
 
     -- MFWR at a target
     target_reaches : (v t : ℕ) (m : List ℕ) → t < count_at d → length m ≡ 4 * length_at d * count_at d
-        → ReachesView (waiting d v 2 (Current.Frame t) true buffer) m (packet_words v Packet.MultiFrame) (waiting d (crc_of v Packet.MultiFrame) 2 (Current.Frame t) true buffer) (placed (length_at d) t x m)
+        → ReachesView (waiting d v 2 (Some t) true buffer) m (packet_words v Packet.MultiFrame) (waiting d (crc_of v Packet.MultiFrame) 2 (Some t) true buffer) (placed (length_at d) t x m)
     target_reaches v t m inside room = rw (bytes_words (length_at d) x bytes size) at (multi_reaches d v t buffer m (fits t m inside room))
 
     placed_room : (t : ℕ) (m : List ℕ) → t < count_at d → length m ≡ 4 * length_at d * count_at d → length (placed (length_at d) t x m) ≡ 4 * length_at d * count_at d
     placed_room t m inside room = placed_length (length_at d) t x m (fits t m inside room) size ∙ room
 
-    further_reaches : (own : ℕ → Bool) (ts : List ℕ) (low v : ℕ) (c : Current) (m : List ℕ) → Targets (length_at d) (count_at d) own low ts → length m ≡ 4 * length_at d * count_at d
+    further_reaches : (own : ℕ → Bool) (ts : List ℕ) (low v : ℕ) (c : Option ℕ) (m : List ℕ) → Targets (length_at d) (count_at d) own low ts → length m ≡ 4 * length_at d * count_at d
         → ReachesView (waiting d v 2 c true buffer) m (packets_words v (further d ts)) (waiting d (crc_after v (further d ts)) 2 (last_of c ts) true buffer) (spread (length_at d) x ts m)
     unfolding further crc_after last_of spread
     further_reaches own [] low v c m targets room = no_packets v
     further_reaches own (t ∷ ts) low v c m targets room =
         then_packets v (to_frame d t) _ (far_reaches v 2 t c true buffer m mfwr_quiet targets.1)
         (then_packets (crc_of v (to_frame d t)) Packet.MultiFrame (further d ts) (target_reaches (crc_of v (to_frame d t)) t m targets.1 room)
-        (further_reaches own ts (t + 1) (crc_of (crc_of v (to_frame d t)) Packet.MultiFrame) (Current.Frame t) (placed (length_at d) t x m) targets.3 (placed_room t m targets.1 room)))
+        (further_reaches own ts (t + 1) (crc_of (crc_of v (to_frame d t)) Packet.MultiFrame) (Some t) (placed (length_at d) t x m) targets.3 (placed_room t m targets.1 room)))
 
     -- the first target, for which CMD is written, and the others
-    spread_reaches : (own : ℕ → Bool) (t : ℕ) (ts : List ℕ) (v : ℕ) (c : Current) (m : List ℕ) → Targets (length_at d) (count_at d) own 0 (t ∷ ts) → length m ≡ 4 * length_at d * count_at d
+    spread_reaches : (own : ℕ → Bool) (t : ℕ) (ts : List ℕ) (v : ℕ) (c : Option ℕ) (m : List ℕ) → Targets (length_at d) (count_at d) own 0 (t ∷ ts) → length m ≡ 4 * length_at d * count_at d
         → ReachesView (waiting d v 1 c true buffer) m (packets_words v (spread_packets d (t ∷ ts)))
-        (waiting d (crc_after v (spread_packets d (t ∷ ts))) 2 (last_of (Current.Frame t) ts) true buffer) (spread (length_at d) x (t ∷ ts) m)
+        (waiting d (crc_after v (spread_packets d (t ∷ ts))) 2 (last_of (Some t) ts) true buffer) (spread (length_at d) x (t ∷ ts) m)
     unfolding spread_packets crc_after spread
     spread_reaches own t ts v c m targets room =
         let v₁ = crc_of v (to_frame d t) in
         let v₂ = crc_of v₁ (Packet.Command 2) in
         then_packets v (to_frame d t) _ (far_reaches v 1 t c true buffer m wcfg_quiet targets.1)
-        (then_packets v₁ (Packet.Command 2) _ (command_reaches d v₁ 1 (Current.Frame t) true buffer m 2 mfwr_quiet)
+        (then_packets v₁ (Packet.Command 2) _ (command_reaches d v₁ 1 (Some t) true buffer m 2 mfwr_quiet)
         (then_packets v₂ Packet.MultiFrame (further d ts) (target_reaches v₂ t m targets.1 room)
-        (further_reaches own ts (t + 1) (crc_of v₂ Packet.MultiFrame) (Current.Frame t) (placed (length_at d) t x m) targets.3 (placed_room t m targets.1 room))))
+        (further_reaches own ts (t + 1) (crc_of v₂ Packet.MultiFrame) (Some t) (placed (length_at d) t x m) targets.3 (placed_room t m targets.1 room))))
 
 -- ---- a step, from any state between two packets
 
 -- where words lead, with what the next step does not rely on left open
 pub record Reached (d v : ℕ) (s : View) (m ws k : List ℕ) : Type 0 where
   pub cmd : ℕ
-  pub current : Current
+  pub current : Option ℕ
   pub valid : Bool
   pub buffer : List ℕ
   pub full : length buffer ≡ length_at d
   pub runs_to : ReachesView s m ws (waiting d v cmd current valid buffer) k
 
-aims_any : (n : ℕ) (fs : List (List ℕ)) → Aims n (Current.Frame n) fs
+aims_any : (n : ℕ) (fs : List (List ℕ)) → Aims n (Some n) fs
 aims_any n [] = tt
 aims_any n (x ∷ xs) = refl
 
@@ -130,7 +128,7 @@ module _ (d : ℕ) (known : d ≤ 7) (own : ℕ → Bool) where
   positive : 0 < length_at d
   positive = (figures d known).length_positive
 
-  module _ (v k : ℕ) (c : Current) (b : Bool) (buffer m : List ℕ) (full : length buffer ≡ length_at d) (room : length m ≡ 4 * length_at d * count_at d) where
+  module _ (v k : ℕ) (c : Option ℕ) (b : Bool) (buffer m : List ℕ) (full : length buffer ≡ length_at d) (room : length m ≡ 4 * length_at d * count_at d) where
     write_reached : (n : ℕ) (fs : List (List ℕ)) → FitsWrite (length_at d) (count_at d) own n fs → ByteStep (FrameWrite n fs)
         → Reached d (crc_after v (step_packets d (FrameWrite n fs))) (waiting d v k c b buffer) m (packets_words v (step_packets d (FrameWrite n fs))) (frames_written (length_at d) n fs m)
     unfolding step_packets crc_after crc_of
@@ -140,14 +138,14 @@ module _ (d : ℕ) (known : d ≤ 7) (own : ℕ → Bool) where
         let zeros = replicate {A = ℕ} (length_at d) 0 in
         record {
           cmd = 1;
-          current = reached d n (Current.Frame n) fs;
+          current = reached d n (Some n) fs;
           valid = true;
           buffer = zeros;
           full = length-replicate (length_at d) 0;
           runs_to = then_packets v (Packet.Command 1) _ (command_reaches d v k c b buffer m 1 wcfg_quiet)
               (then_packets v₁ (to_frame d n) _ (far_reaches d known v₁ 1 n c b buffer m wcfg_quiet (omega (arith, fit.part, fit.positive)))
               (then_packets v₂ (Packet.FrameData (frames_words (length_at d) fs ++ zeros)) []
-              (data_reaches d v₂ n (Current.Frame n) b fs zeros buffer m positive full room fit.part (aims_any n fs) bytes fit.sized (zero_words (length_at d)) (length-replicate (length_at d) 0))
+              (data_reaches d v₂ n (Some n) b fs zeros buffer m positive full room fit.part (aims_any n fs) bytes fit.sized (zero_words (length_at d)) (length-replicate (length_at d) 0))
               (no_packets 0)));
         }
 
@@ -160,7 +158,7 @@ module _ (d : ℕ) (known : d ≤ 7) (own : ℕ → Bool) where
         let ws = words_from (length_at d) x in
         record {
           cmd = 2;
-          current = last_of d known (Current.Frame t) ts;
+          current = last_of d known (Some t) ts;
           valid = true;
           buffer = ws;
           full = words_length (length_at d) x;
@@ -179,7 +177,7 @@ module _ (d : ℕ) (known : d ≤ 7) (own : ℕ → Bool) where
 
   -- ---- the list of steps
 
-  none_reached : (v k : ℕ) (c : Current) (b : Bool) (buffer m : List ℕ) → length buffer ≡ length_at d → Reached d v (waiting d v k c b buffer) m (packets_words v []) m
+  none_reached : (v k : ℕ) (c : Option ℕ) (b : Bool) (buffer m : List ℕ) → length buffer ≡ length_at d → Reached d v (waiting d v k c b buffer) m (packets_words v []) m
   none_reached v k c b buffer m full = record { cmd = k; current = c; valid = b; buffer = buffer; full = full; runs_to = no_packets v }
 
   then_steps : {s : View} {m k : List ℕ} (v : ℕ) (ps qs : List Packet) (r : List ℕ) (first : Reached d (crc_after v ps) s m (packets_words v ps) k)
@@ -190,7 +188,7 @@ module _ (d : ℕ) (known : d ≤ 7) (own : ℕ → Bool) where
       (record { cmd = others.cmd; current = others.current; valid = others.valid; buffer = others.buffer; full = others.full; runs_to = view_on first.runs_to others.runs_to })
 
   -- 01: "Each step works on what the last one left"
-  pub steps_reached : (ss : List Step) (v k : ℕ) (c : Current) (b : Bool) (buffer m : List ℕ) → AllFit (length_at d) (count_at d) own ss → ByteSteps ss
+  pub steps_reached : (ss : List Step) (v k : ℕ) (c : Option ℕ) (b : Bool) (buffer m : List ℕ) → AllFit (length_at d) (count_at d) own ss → ByteSteps ss
       → length buffer ≡ length_at d → length m ≡ 4 * length_at d * count_at d
       → Reached d (crc_after v (steps_packets d ss)) (waiting d v k c b buffer) m (packets_words v (steps_packets d ss)) (steps_applied (length_at d) ss m)
   unfolding steps_packets crc_after steps_applied

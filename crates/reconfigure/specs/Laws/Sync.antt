@@ -1,18 +1,15 @@
 -- FFFFFFFF and the sync word end the hunt, whatever window the record holds.
 -- Byte by byte: four bytes FF leave nothing of the window, and then the sync word's four bytes are the last four.
-use Rattle.std.specs.Prelude.{◌≡◌, List, [], ◌∷◌, ℕ}
+use Rattle.std.specs.Prelude.{◌≡◌, List, [], ◌∷◌, ℕ, None}
 use Rattle.std.proofs.Common.{◌∙◌, arith}
 use Rattle.std.proofs.Math.Path.{refl, ap}
 use Rattle.std.proofs.Math.Bool.{and-false}
 use Rattle.words.specs.WordsInBytes.{bytes_of}
-use Rattle.config.specs.declared.Open.TheVariants as Open
 use Rattle.config.specs.ControlState.{with_partial}
 use Rattle.config.specs.StreamBytes.{is_sync, hunted, byte}
 use Rattle.config.specs.declared.PartialWord.{PartialWord}
-use Rattle.config.specs.declared.PartialWord.TheVariants as PartialWord
 use Rattle.config.specs.declared.Control.{Control}
 use Rattle.config.specs.declared.Phase.{Phase}
-use Rattle.config.specs.declared.Phase.TheVariants as Phase
 use Rattle.loader.specs.EventEffects.{buffered, stored}
 use Rattle.loader.specs.Run.{ran, after, run}
 use Rattle.loader.specs.Laws.Pieces.{byte_run}
@@ -68,14 +65,14 @@ module _ (c : Control) (f m : List ℕ) where
         (ones_hunt _ ∙ ap Phase.Hunting (ones_left b));
   }
 
-  sync_reaches : Reaches (record_of (Phase.Hunting (PartialWord.Three 0xFF 0xFF 0xFF)) c f) m (0xAA995566 ∷ []) (record_of (Phase.Header Open.Closed) (with_partial PartialWord.Zero c) f) m
+  sync_reaches : Reaches (record_of (Phase.Hunting (PartialWord.Three 0xFF 0xFF 0xFF)) c f) m (0xAA995566 ∷ []) (record_of (Phase.Header None) (with_partial PartialWord.Zero c) f) m
   unfolding bytes_of hunted is_sync
   sync_reaches = record {
     runs_to = λ rest.
-        four_hunted _ (PartialWord.Three 0xFF 0xFF 0xAA) (PartialWord.Three 0xFF 0xAA 0x99) (PartialWord.Three 0xAA 0x99 0x55) (Phase.Header Open.Closed) 0xAA 0x99 0x55 0x66 rest refl refl refl refl;
+        four_hunted _ (PartialWord.Three 0xFF 0xFF 0xAA) (PartialWord.Three 0xFF 0xAA 0x99) (PartialWord.Three 0xAA 0x99 0x55) (Phase.Header None) 0xAA 0x99 0x55 0x66 rest refl refl refl refl;
   }
 
 -- 01, "Waiting for sync is phase hunting, with any bytes remembered"
 pub hunt_ends : (b : PartialWord) (c : Control) (f m : List ℕ)
-    → Reaches (record_of (Phase.Hunting b) c f) m (0xFFFFFFFF ∷ 0xAA995566 ∷ []) (record_of (Phase.Header Open.Closed) (with_partial PartialWord.Zero c) f) m
+    → Reaches (record_of (Phase.Hunting b) c f) m (0xFFFFFFFF ∷ 0xAA995566 ∷ []) (record_of (Phase.Header None) (with_partial PartialWord.Zero c) f) m
 hunt_ends b c f m = reaches_on (ones_reach c f m b) (sync_reaches (with_partial PartialWord.Zero c) f m)

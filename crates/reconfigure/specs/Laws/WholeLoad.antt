@@ -1,6 +1,6 @@
 -- A whole stream: from any record that hunts, the load takes all of it, the memory is what the steps make of it, and the record hunts.
 -- The sync word, the three packets that open a stream, the steps, and the two that end it.
-use Rattle.std.specs.Prelude.{◌≡◌, List, [], ◌++◌, Bool, ℕ, ◌+◌, ◌-◌, ◌*◌, ◌≤◌, length, take}
+use Rattle.std.specs.Prelude.{◌≡◌, List, [], ◌++◌, Bool, ℕ, ◌+◌, ◌-◌, ◌*◌, ◌≤◌, length, take, Option, None}
 use Rattle.std.proofs.Common.{◌∙◌, sym, ap, append-nil, add-zero, arith, length-take-le, eq-eqb}
 use Rattle.std.proofs.Math.Path.{refl}
 use Rattle.parts.specs.Table.{idcode_at, length_at, count_at}
@@ -10,17 +10,13 @@ use Rattle.words.proofs.Laws.WordBytes.{bytes_length}
 use Rattle.registers.specs.RegisterAddresses.{address_of}
 use Rattle.registers.specs.CommandCodes.{RCRC, DESYNC}
 use Rattle.registers.specs.declared.Register.TheVariants as Register
-use Rattle.config.specs.declared.Open.TheVariants as Open
 use Rattle.config.specs.RegisterWrites.{with_crc, fed_crc, hold}
 use Rattle.config.specs.ControlState.{with_registers, with_flags, with_partial, raised, transition}
 use Rattle.config.specs.Commands.{signalled, command_crc, command_phase, acted}
 use Rattle.config.specs.DataWords.{ended, onward, put, idcode_word, flr_word, data_word}
 use Rattle.config.specs.declared.PartialWord.{PartialWord}
-use Rattle.config.specs.declared.PartialWord.TheVariants as PartialWord
 use Rattle.config.specs.declared.Control.{Control}
-use Rattle.config.specs.declared.Current.{Current}
 use Rattle.config.specs.declared.Phase.{Phase}
-use Rattle.config.specs.declared.Phase.TheVariants as Phase
 use Rattle.config.specs.declared.Event.TheVariants as Event
 use Rattle.record.specs.declared.Record.{Record}
 use Rattle.layout.specs.Step.{Step}
@@ -52,15 +48,15 @@ sized w c = with_flags (raised Register.Flr c.flags) (put Register.Flr w c)
 abbrev identified : ℕ → Control → Control
 identified w c = with_flags (raised Register.Idcode c.flags) (put Register.Idcode w c)
 
-reset_word : (c : Control) → data_word Register.Cmd 1 0 c RCRC ≡ transition (Phase.Header Open.Closed) (reset c) Event.Nothing
+reset_word : (c : Control) → data_word Register.Cmd 1 0 c RCRC ≡ transition (Phase.Header None) (reset c) Event.Nothing
 unfolding acted signalled command_crc command_phase
 reset_word c = command_word RCRC c (omega arith)
 
-sized_word : (c : Control) (w : ℕ) → w + 1 ≡ length_at c.device → data_word Register.Flr 1 0 c w ≡ transition (Phase.Header Open.Closed) (sized w c) Event.Nothing
+sized_word : (c : Control) (w : ℕ) → w + 1 ≡ length_at c.device → data_word Register.Flr 1 0 c w ≡ transition (Phase.Header None) (sized w c) Event.Nothing
 unfolding data_word flr_word onward ended address_of
 sized_word c w e = simp (eq-eqb _ _ e)
 
-identified_word : (c : Control) (w : ℕ) → w ≡ idcode_at c.device → data_word Register.Idcode 1 0 c w ≡ transition (Phase.Header Open.Closed) (identified w c) Event.Nothing
+identified_word : (c : Control) (w : ℕ) → w ≡ idcode_at c.device → data_word Register.Idcode 1 0 c w ≡ transition (Phase.Header None) (identified w c) Event.Nothing
 unfolding data_word idcode_word onward ended address_of
 identified_word c w e = simp (eq-eqb _ _ e)
 
@@ -68,18 +64,18 @@ module _ (d : ℕ) (known : d ≤ 7) (c : Control) (f m : List ℕ) (at : c.devi
   abbrev opened : Control
   opened = identified (idcode_at d) (sized (length_at d - 1) (reset c))
 
-  heading_reaches : Reaches (record_of (Phase.Header Open.Closed) c f) m (packets_words 0 (heading d)) (record_of (Phase.Header Open.Closed) opened f) m
+  heading_reaches : Reaches (record_of (Phase.Header None) c f) m (packets_words 0 (heading d)) (record_of (Phase.Header None) opened f) m
   unfolding packets_words packet_words buffered stored address_of
   heading_reaches =
       let some = (figures d known).length_positive in
-      reaches_on (write_reaches (record_of (Phase.Header Open.Closed) c f) m Register.Cmd RCRC _ (refl, refl) refl empty (omega arith) (reset_word c))
-      (reaches_on (write_reaches (record_of (Phase.Header Open.Closed) (reset c) f) m Register.Flr (length_at d - 1) _ (refl, refl) refl empty
+      reaches_on (write_reaches (record_of (Phase.Header None) c f) m Register.Cmd RCRC _ (refl, refl) refl empty (omega arith) (reset_word c))
+      (reaches_on (write_reaches (record_of (Phase.Header None) (reset c) f) m Register.Flr (length_at d - 1) _ (refl, refl) refl empty
       (omega (arith, length_fits d)) (sized_word (reset c) (length_at d - 1) (rw at (omega arith))))
-      (reaches_on (write_reaches (record_of (Phase.Header Open.Closed) (sized (length_at d - 1) (reset c)) f) m Register.Idcode (idcode_at d) _ (refl, refl) refl empty
+      (reaches_on (write_reaches (record_of (Phase.Header None) (sized (length_at d - 1) (reset c)) f) m Register.Idcode (idcode_at d) _ (refl, refl) refl empty
       (omega (arith, idcode_fits d)) (identified_word (sized (length_at d - 1) (reset c)) (idcode_at d) (ap idcode_at (sym at)))) reaches_none))
 
   heading_seen : length f ≡ 213
-      → view (record_of (Phase.Header Open.Closed) opened f) ≡ waiting d (crc_after 0 (heading d)) RCRC c.current c.flags.buffer_valid (take (length_at d) f)
+      → view (record_of (Phase.Header None) opened f) ≡ waiting d (crc_after 0 (heading d)) RCRC c.current c.flags.buffer_valid (take (length_at d) f)
   unfolding crc_after crc_of hold fed_crc raised address_of
   heading_seen full = rw (at, empty, full)
 
@@ -100,7 +96,7 @@ pub record ReachesHunting (e : Record) (m ws k : List ℕ) : Type 0 where
   pub hunts : next.phase ≡ Phase.Hunting PartialWord.Zero
   pub empty : next.control.partial ≡ PartialWord.Zero
 
-ending_reaches : (d v k : ℕ) (n : Current) (b : Bool) (buffer m : List ℕ) (e : Record) → view e ≡ waiting d v k n b buffer → ReachesHunting e m (packets_words v ending) m
+ending_reaches : (d v k : ℕ) (n : Option ℕ) (b : Bool) (buffer m : List ℕ) (e : Record) → view e ≡ waiting d v k n b buffer → ReachesHunting e m (packets_words v ending) m
 unfolding packets_words packet_words buffered stored address_of
 ending_reaches d v k n b buffer m e h =
     let checked = (check_reaches d v k n b buffer m).from e h in
@@ -118,13 +114,13 @@ ending_reaches d v k n b buffer m e h =
 module _ (d : ℕ) (known : d ≤ 7) (own : ℕ → Bool) (ss : List Step) (fits : AllFit (length_at d) (count_at d) own ss) (bytes : ByteSteps ss) where
   -- the packets after the sync word
   packets_reach : (c : Control) (f m : List ℕ) → c.device ≡ d → c.partial ≡ PartialWord.Zero → length f ≡ 213 → length m ≡ 4 * length_at d * count_at d
-      → ReachesHunting (record_of (Phase.Header Open.Closed) c f) m (packets_words 0 (stream_packets d ss)) (steps_applied (length_at d) ss m)
+      → ReachesHunting (record_of (Phase.Header None) c f) m (packets_words 0 (stream_packets d ss)) (steps_applied (length_at d) ss m)
   packets_reach c f m at empty full room =
       let v₁ = crc_after 0 (heading d) in
       let v₂ = crc_after v₁ (steps_packets d ss) in
       let counts = length-take-le (length_at d) f (omega (arith, length_fits d)) in
       let steps = steps_reached d known own ss v₁ 7 c.current c.flags.buffer_valid (take (length_at d) f) m fits bytes counts room in
-      let done = steps.runs_to.from (record_of (Phase.Header Open.Closed) (opened d known c f m at empty) f) (heading_seen d known c f m at empty full) in
+      let done = steps.runs_to.from (record_of (Phase.Header None) (opened d known c f m at empty) f) (heading_seen d known c f m at empty full) in
       let last = ending_reaches d v₂ steps.cmd steps.current steps.valid steps.buffer (steps_applied (length_at d) ss m) done.next done.seen in
       rw (words_append 0 (heading d) (steps_packets d ss ++ ending), words_append v₁ (steps_packets d ss) ending)
       (record {

@@ -1,13 +1,12 @@
 -- A consistent record of each of 01's five phases, as a single closed statement: what words make of a freshly powered XC3S50.
 -- By computation: the bytes of the words are taken one by one.
-use Rattle.std.specs.Prelude.{◌≡◌, refl, Bool, true, ℕ, replicate}
+use Rattle.std.specs.Prelude.{◌≡◌, refl, Bool, true, ℕ, replicate, None}
 use mathlib.Core.List.{List, [], ◌∷◌, ◌++◌, map, foldl}
 use Rattle.crc16.specs.CrcRegister.{input, shift, shift_in, feed}
 use Rattle.words.specs.WordsInBytes.{bytes_of}
 use Rattle.parts.specs.Table.{parts, part_of, figure_of, idcode_of, frame_length, frame_count}
 use Rattle.registers.specs.RegisterAddresses.{address_of, register_at}
 use Rattle.registers.specs.declared.Register.TheVariants as Register
-use Rattle.config.specs.declared.Open.TheVariants as Open
 use Rattle.answers.specs.declared.Stop.TheVariants as Stop
 use Rattle.config.specs.RegisterWrites.{hold, fed_crc}
 use Rattle.config.specs.ControlState.{transition, raised}
@@ -38,6 +37,6 @@ opening = 0xAA995566 ∷ 0x30016001 ∷ 36 ∷ 0x3001C001 ∷ 0x0140D093 ∷ 0x3
 -- word; one word of frame data; all 37; and FFFFFFFF as a header, stop 1
 pub each_phase :
     map reached ([] ∷ (0xAA995566 ∷ []) ∷ (opening ++ 0 ∷ []) ∷ (opening ++ replicate 37 0) ∷ (0xAA995566 ∷ 0xFFFFFFFF ∷ []) ∷ [])
-    ≡ (Phase.Hunting PartialWord.Zero, true) ∷ (Phase.Header Open.Closed, true) ∷ (Phase.Data Register.Fdri 36 1, true) ∷ (Phase.Crc, true) ∷ (Phase.Stopped Stop.BadHeader, true) ∷ []
+    ≡ (Phase.Hunting PartialWord.Zero, true) ∷ (Phase.Header None, true) ∷ (Phase.Data Register.Fdri 36 1, true) ∷ (Phase.Crc, true) ∷ (Phase.Stopped Stop.BadHeader, true) ∷ []
 unfolding input shift shift_in feed parts part_of figure_of idcode_of frame_length frame_count bytes_of address_of register_at hold fed_crc type1 packet ready counted begin type_one_write obeyed signalled command_crc command_phase acted ended onward cmd_word fdri_word idcode_word flr_word data_word word is_sync hunted gathered byte raised current_fits data_fits phase_fits consistent fresh_control fresh
 each_phase = refl

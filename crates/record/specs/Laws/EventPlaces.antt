@@ -1,6 +1,6 @@
 -- An event is FDRI's word, kept at the next place, or a store at the current frame; from a consistent state the place is under L, the frame under F.
 -- By the cases of each definition, with the phase and the current frame that the word met; then by the items of consistency.
-use Rattle.std.specs.Prelude.{◌≡◌, true, ℕ, ◌+◌, ◌<◌, eqb, leb, ltb}
+use Rattle.std.specs.Prelude.{◌≡◌, true, ℕ, ◌+◌, ◌<◌, eqb, leb, ltb, Option, Some, None}
 use Rattle.std.proofs.Math.Path.{refl}
 use Rattle.std.proofs.Math.Bool.{and-eq-true_iff}
 use Rattle.std.proofs.Common.{arith, ltb-true}
@@ -20,15 +20,13 @@ use Rattle.record.specs.Consistency.{current_fits, data_fits, phase_fits, consis
 use Rattle.config.proofs.Laws.StaysSet.{header_plain}
 use Rattle.record.specs.Laws.StaysConsistent.{Consistent, to_items, to_filling, partial_fine}
 use Rattle.registers.specs.declared.Register.{Register}
-use Rattle.config.specs.declared.Open.{Open}
-use Rattle.config.specs.declared.Current.{Current}
 use Rattle.config.specs.declared.PartialWord.{PartialWord}
 use Rattle.config.specs.declared.Control.{Control}
 use Rattle.config.specs.declared.Phase.{Phase}
 use Rattle.config.specs.declared.Event.{Event}
 use Rattle.config.specs.declared.Transition.{Transition}
 
-pub header_quiet : (o : Open) (c : Control) (w : ℕ) → (header_word o c w).event ≡ Event.Nothing
+pub header_quiet : (o : Option Register) (c : Control) (w : ℕ) → (header_word o c w).event ≡ Event.Nothing
 header_quiet o c w = (header_plain c o w).1
 
 -- ---- where an event comes from: the phase that the word met, and the current frame before it
@@ -36,8 +34,8 @@ header_quiet o c w = (header_plain c o w).1
 abbrev pub Asked : Phase → Control → ℕ → Event → Type 0
 Asked p c w Event.Nothing = Unit {0}
 Asked p c w (Event.Keep at v) = (left : ℕ) × (p ≡ Phase.Data Register.Fdri left at) × (v ≡ w)
-Asked p c w (Event.KeepAndStore at v n) = (left : ℕ) × (p ≡ Phase.Data Register.Fdri left at) × (v ≡ w) × (c.current ≡ Current.Frame n)
-Asked p c w (Event.Store n) = (left filled : ℕ) × (p ≡ Phase.Data Register.Mfwr left filled) × (c.current ≡ Current.Frame n)
+Asked p c w (Event.KeepAndStore at v n) = (left : ℕ) × (p ≡ Phase.Data Register.Fdri left at) × (v ≡ w) × (c.current ≡ Some n)
+Asked p c w (Event.Store n) = (left filled : ℕ) × (p ≡ Phase.Data Register.Mfwr left filled) × (c.current ≡ Some n)
 
 module _ (c : Control) (w : ℕ) where
   abbrev Asks : Phase → Transition → Type 0
@@ -47,15 +45,15 @@ module _ (c : Control) (w : ℕ) where
   unfolding checked
   crc_asked p q = either (Asks p) (eqb (feed c.registers.crc 0 w) 0) (λ t. tt) (λ t. tt)
 
-  stored_asked : (q : Current) → c.current ≡ q → (left filled : ℕ) → Asks (Phase.Data Register.Fdri left filled) (frame_stored q left filled c w)
+  stored_asked : (q : Option ℕ) → c.current ≡ q → (left filled : ℕ) → Asks (Phase.Data Register.Fdri left filled) (frame_stored q left filled c w)
   unfolding frame_stored
-  stored_asked (Current.Frame n) e left filled = (left, refl, refl, e)
-  stored_asked Current.NoFrame e left filled = tt
+  stored_asked (Some n) e left filled = (left, refl, refl, e)
+  stored_asked None e left filled = tt
 
-  second_asked : (q : Current) → c.current ≡ q → (left filled : ℕ) → Asks (Phase.Data Register.Mfwr left filled) (mfwr_stored q c w)
+  second_asked : (q : Option ℕ) → c.current ≡ q → (left filled : ℕ) → Asks (Phase.Data Register.Mfwr left filled) (mfwr_stored q c w)
   unfolding mfwr_stored
-  second_asked (Current.Frame n) e left filled = (left, filled, refl, e)
-  second_asked Current.NoFrame e left filled = tt
+  second_asked (Some n) e left filled = (left, filled, refl, e)
+  second_asked None e left filled = tt
 
   data_asked : (r : Register) (left filled : ℕ) → Asks (Phase.Data r left filled) (data_word r left filled c w)
   unfolding data_word far_word cmd_word fdri_word mfwr_word flr_word idcode_word acted
@@ -89,7 +87,7 @@ Place c at = record { below : at < length_at c.device; room : at < 213 }
 
 -- the frame to store at
 abbrev pub Target : Control → ℕ → Type 0
-Target c n = record { current : c.current ≡ Current.Frame n; inside : n < count_at c.device }
+Target c n = record { current : c.current ≡ Some n; inside : n < count_at c.device }
 
 abbrev pub EventFits : Control → Event → Type 0
 EventFits c Event.Nothing = Unit {0}
@@ -102,7 +100,7 @@ place p c left at k e =
     let f = to_filling left at c (rw e at k.phase) in
     record { below = f.below; room = omega (arith, f.below, (figures c.device k.state.device).length_limit) }
 
-target : (p : Phase) (c : Control) (n : ℕ) → Consistent p c → c.current ≡ Current.Frame n → Target c n
+target : (p : Phase) (c : Control) (n : ℕ) → Consistent p c → c.current ≡ Some n → Target c n
 unfolding current_fits
 target p c n k e = record { current = e; inside = ltb-true _ _ (rw e at k.state.current) }
 

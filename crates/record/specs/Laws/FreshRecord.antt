@@ -1,14 +1,12 @@
 -- Power-on, case by case: 21, 23, or done, with a memory of zeros and a record that is consistent.
 -- By the part that the device number names; frame 0 is a frame of every part, since F is at least 45.
-use Rattle.std.specs.Prelude.{◌≡◌, refl, ◌≢◌, List, true, ℕ, ◌≤◌, ◌<◌, length, replicate}
+use Rattle.std.specs.Prelude.{◌≡◌, refl, ◌≢◌, List, true, ℕ, ◌≤◌, ◌<◌, length, replicate, Result, Ok, Err}
 use Rattle.std.proofs.Common.{◌∙◌, sym, arith, lt-ltb, le-leb, eq-eqb, ne_eqb}
 use Rattle.std.proofs.Math.Path.{ap}
 use Rattle.parts.specs.Table.{part_of, frame_count, count_at, memory_at}
 use Rattle.parts.proofs.Laws.Figures.{figures}
 use Rattle.parts.specs.declared.table.Part.{Part}
-use Rattle.parts.specs.declared.table.PartAnswer.{PartAnswer}
 use Rattle.answers.specs.declared.Refusal.{Refusal}
-use Rattle.answers.specs.declared.LoadAnswer.TheVariants as LoadAnswer
 use Rattle.record.specs.Consistency.{current_fits, phase_fits, consistent}
 use Rattle.record.specs.PowerOn.{fresh_control, fresh, not_powered, powered, power_on}
 
@@ -18,23 +16,23 @@ count_positive p = omega arith
 
 -- ---- power-on, case by case
 
-module _ (d : ℕ) (m : List ℕ) (q : PartAnswer) (e : q ≡ part_of d) where
-  pub power_no_part : (c : Refusal) → q ≡ PartAnswer.Refused c → not_powered c m ≡ power_on d m
+module _ (d : ℕ) (m : List ℕ) (q : Result Part Refusal) (e : q ≡ part_of d) where
+  pub power_no_part : (c : Refusal) → q ≡ Err c → not_powered c m ≡ power_on d m
   unfolding powered
-  power_no_part c k = ap (λ (v : PartAnswer). powered v d m) (sym k ∙ e)
+  power_no_part c k = ap (λ (v : Result Part Refusal). powered v d m) (sym k ∙ e)
 
-  pub power_wrong_memory : (p : Part) → q ≡ PartAnswer.Known p → length m ≢ memory_at d → not_powered Refusal.WrongMemory m ≡ power_on d m
+  pub power_wrong_memory : (p : Part) → q ≡ Ok p → length m ≢ memory_at d → not_powered Refusal.WrongMemory m ≡ power_on d m
   unfolding powered
-  power_wrong_memory p k other = simp (ne_eqb _ _ other) at (ap (λ (v : PartAnswer). powered v d m) (sym k ∙ e))
+  power_wrong_memory p k other = simp (ne_eqb _ _ other) at (ap (λ (v : Result Part Refusal). powered v d m) (sym k ∙ e))
 
   -- 01: "memory, registers and frame words zero, all flags clear, current frame 0, hunting"
-  pub power_done : (p : Part) → q ≡ PartAnswer.Known p → length m ≡ memory_at d
-      → record { «record» = fresh d; memory = replicate (memory_at d) 0; answer = LoadAnswer.Done; taken = 0 } ≡ power_on d m
+  pub power_done : (p : Part) → q ≡ Ok p → length m ≡ memory_at d
+      → record { «record» = fresh d; memory = replicate (memory_at d) 0; answer = Ok tt; taken = 0 } ≡ power_on d m
   unfolding powered
-  power_done p k room = simp (eq-eqb _ _ room) at (ap (λ (v : PartAnswer). powered v d m) (sym k ∙ e))
+  power_done p k room = simp (eq-eqb _ _ room) at (ap (λ (v : Result Part Refusal). powered v d m) (sym k ∙ e))
 
 pub powered_so : (d : ℕ) (m : List ℕ) → d ≤ 7 → length m ≡ memory_at d
-    → power_on d m ≡ record { «record» = fresh d; memory = replicate (memory_at d) 0; answer = LoadAnswer.Done; taken = 0 }
+    → power_on d m ≡ record { «record» = fresh d; memory = replicate (memory_at d) 0; answer = Ok tt; taken = 0 }
 powered_so d m h room = let f = figures d h in sym (power_done d m (part_of d) refl f.part f.known room)
 
 pub fresh_consistent : (d : ℕ) → d ≤ 7 → consistent (fresh d).phase (fresh d).control ≡ true

@@ -1,6 +1,6 @@
 -- Every word and every byte from a consistent state gives a consistent state.
 -- The items of consistency one by one: the four of the control state, then the phase, by the cases of each definition.
-use Rattle.std.specs.Prelude.{◌≡◌, Bool, false, ◌&&◌, ℕ, ◌+◌, ◌-◌, ◌%◌, ◌≤◌, ◌<◌, eqb, ltb}
+use Rattle.std.specs.Prelude.{◌≡◌, Bool, false, ◌&&◌, ℕ, ◌+◌, ◌-◌, ◌%◌, ◌≤◌, ◌<◌, eqb, ltb, Option, Some, None, Result, Ok, Err}
 use Rattle.std.proofs.Common.{◌∙◌, sym, arith, zero-add}
 use Rattle.std.proofs.Math.Path.{refl}
 use Rattle.std.proofs.Math.Bool.{true, and-eq-true_iff}
@@ -14,7 +14,6 @@ use Rattle.parts.specs.Table.{idcode_at, length_at, count_at}
 use Rattle.parts.proofs.Laws.Figures.{figures}
 use Rattle.parts.specs.FrameAddress.{frame_number}
 use Rattle.parts.proofs.Laws.FrameNumbers.{number_below}
-use Rattle.parts.specs.declared.frame.NumberAnswer.{NumberAnswer}
 use Rattle.config.specs.CurrentFrame.{current_from, named}
 use Rattle.registers.specs.RegisterAddresses.{address_of, is_fdri, is_mfwr, is_lout, register_at}
 use Rattle.registers.specs.CommandCodes.{RCRC, DESYNC, last_command}
@@ -25,18 +24,16 @@ use Rattle.config.specs.Commands.{signalled, command_crc, command_phase, acted}
 use Rattle.config.specs.DataWords.{ended, onward, put, checked, crc_word, far_word, cmd_word, stepped, frame_stored, fdri_word, mfwr_stored, mfwr_word, idcode_word, flr_word, data_word, word}
 use Rattle.config.specs.StreamBytes.{is_sync, hunted, gathered, byte}
 use Rattle.record.specs.Consistency.{current_fits, data_fits, phase_fits, consistent}
-use Rattle.registers.specs.declared.RegisterAnswer.{RegisterAnswer}
 use Rattle.registers.specs.declared.Register.{Register}
 use Rattle.config.specs.declared.Registers.{Registers}
-use Rattle.config.specs.declared.Open.{Open}
 use Rattle.config.specs.declared.PacketHeader.{PacketHeader}
 use Rattle.config.specs.declared.Flags.{Flags}
-use Rattle.config.specs.declared.Current.{Current}
 use Rattle.config.specs.declared.PartialWord.{PartialWord}
 use Rattle.config.specs.declared.Control.{Control}
 use Rattle.config.specs.declared.Phase.{Phase}
 use Rattle.answers.specs.declared.Stop.{Stop}
 use Rattle.config.specs.declared.Transition.{Transition}
+use Rattle.answers.specs.declared.Refusal.{Refusal}
 
 -- ---- the items, by name
 
@@ -159,23 +156,23 @@ pub named_fits : (d a : ℕ) → d ≤ 7 → current_fits d (named d a) ≡ true
 unfolding current_fits current_from
 named_fits d a h = go (frame_number d a) refl
   where
-    go : (q : NumberAnswer) → frame_number d a ≡ q → current_fits d (current_from q) ≡ true
-    go (NumberAnswer.Number n) e = let f = figures d h in lt-ltb n (count_at d) (omega (arith, number_below d f.part a n f.known e, f.count))
-    go NumberAnswer.NoFrame e = refl
-    go (NumberAnswer.Refused c) e = refl
+    go : (q : Result (Option ℕ) Refusal) → frame_number d a ≡ q → current_fits d (current_from q) ≡ true
+    go (Ok (Some n)) e = let f = figures d h in lt-ltb n (count_at d) (omega (arith, number_below d f.part a n f.known e, f.count))
+    go (Ok None) e = refl
+    go (Err c) e = refl
 
 -- 01: the current frame "steps on by one (after F-1: none)"
 stepped_fits : (d n : ℕ) → current_fits d (stepped d n) ≡ true
 unfolding stepped current_fits
-stepped_fits d n = either (λ (q : Current). current_fits d q ≡ true) (ltb (n + 1) (count_at d)) (λ t. t) (λ t. refl)
+stepped_fits d n = either (λ (q : Option ℕ). current_fits d q ≡ true) (ltb (n + 1) (count_at d)) (λ t. t) (λ t. refl)
 
 module _ (c : Control) (s : Sound c) where
-  stored_fine : (n : Current) (left filled w : ℕ) → Filling (left - 1) 0 (length_at c.device) → Fine (frame_stored n left filled c w)
+  stored_fine : (n : Option ℕ) (left filled w : ℕ) → Filling (left - 1) 0 (length_at c.device) → Fine (frame_stored n left filled c w)
   unfolding frame_stored hold address_of
-  stored_fine (Current.Frame n) left filled w k =
+  stored_fine (Some n) left filled w k =
       let q = put_sound Register.Fdri w c s s.cmd in
       record { state = record { device = s.device; current = stepped_fits c.device n; crc = q.crc; cmd = s.cmd }; phase = from_filling (left - 1) 0 _ k }
-  stored_fine Current.NoFrame left filled w k = stop_fine Stop.NoCurrentFrame c s
+  stored_fine None left filled w k = stop_fine Stop.NoCurrentFrame c s
 
   fdri_fine : (left filled w : ℕ) → Filling left filled (length_at c.device) → Fine (fdri_word left filled c w)
   unfolding fdri_word ended address_of hold phase_fits
@@ -188,10 +185,10 @@ module _ (c : Control) (s : Sound c) where
 
   -- ---- MFWR
 
-  second_fine : (n : Current) (w : ℕ) → Fine (mfwr_stored n c w)
+  second_fine : (n : Option ℕ) (w : ℕ) → Fine (mfwr_stored n c w)
   unfolding mfwr_stored ended address_of hold phase_fits
-  second_fine (Current.Frame n) w = record { state = put_sound Register.Mfwr w c s s.cmd; phase = refl }
-  second_fine Current.NoFrame w = stop_fine Stop.NoCurrentFrame c s
+  second_fine (Some n) w = record { state = put_sound Register.Mfwr w c s s.cmd; phase = refl }
+  second_fine None w = stop_fine Stop.NoCurrentFrame c s
 
   mfwr_fine : (left filled w : ℕ) → phase_fits (Phase.Data Register.Mfwr left filled) c ≡ true → Fine (mfwr_word left filled c w)
   unfolding mfwr_word hold phase_fits data_fits address_of
@@ -242,12 +239,12 @@ one_short w =
     either Short (eqb (operation w) 0) (λ t. either Short (eqb (count1 w) 0) (λ t. tt) (λ t. tt))
     (λ t. either Short (eqb (operation w) 1) (λ t. tt) (λ t. either Short (eqb (operation w) 2) (λ t. omega arith) (λ t. tt)))
 
-two_short : (o : Open) (w : ℕ) → Short (type2 o w)
+two_short : (o : Option Register) (w : ℕ) → Short (type2 o w)
 unfolding type2
-two_short Open.Closed w = tt
-two_short (Open.After r) w = either Short (eqb (operation w) 1) (λ t. tt) (λ t. either Short (eqb (operation w) 2) (λ t. omega arith) (λ t. tt))
+two_short None w = tt
+two_short (Some r) w = either Short (eqb (operation w) 1) (λ t. tt) (λ t. either Short (eqb (operation w) 2) (λ t. omega arith) (λ t. tt))
 
-packet_short : (o : Open) (w : ℕ) → Short (packet o w)
+packet_short : (o : Option Register) (w : ℕ) → Short (packet o w)
 unfolding packet
 packet_short o w =
     either Short (eqb w 0) (λ t. tt)
@@ -277,10 +274,10 @@ module _ (c : Control) (s : Sound c) where
       (λ a. either Fine (counted r (length_at c.device) n) (λ b. record { state = s; phase = begin_fits r n z h a b }) (λ b. stop_fine _ c s))
       (λ a. stop_fine _ c s)
 
-  one_fine : (o : RegisterAnswer) (n : ℕ) → n ≤ 134217727 → Fine (type_one_write o n c)
+  one_fine : (o : Option Register) (n : ℕ) → n ≤ 134217727 → Fine (type_one_write o n c)
   unfolding type_one_write phase_fits
-  one_fine RegisterAnswer.NotWritable n h = stop_fine Stop.BadRegister c s
-  one_fine (RegisterAnswer.Writable r) n h = either Fine (eqb n 0) (λ t. record { state = s; phase = refl }) (λ t. begin_fine r n t h)
+  one_fine None n h = stop_fine Stop.BadRegister c s
+  one_fine (Some r) n h = either Fine (eqb n 0) (λ t. record { state = s; phase = refl }) (λ t. begin_fine r n t h)
 
   obeyed_fine : (k : PacketHeader) → Short k → Fine (obeyed k c)
   unfolding obeyed phase_fits

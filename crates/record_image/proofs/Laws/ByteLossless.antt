@@ -1,6 +1,6 @@
 -- A byte leads from a record of which its image loses nothing to such a record: the image holds all that is remembered between two bytes.
 -- By the cases of each definition: a whole word empties the partial word, registers take words of 32 bits, and only FDRI's data counts the words filled.
-use Rattle.std.specs.Prelude.{◌≡◌, refl, List, Bool, true, false, cond, ℕ, ◌+◌, ◌-◌, ◌^◌, ◌<◌, eqb, leb, ltb, length}
+use Rattle.std.specs.Prelude.{◌≡◌, refl, List, Bool, true, false, cond, ℕ, ◌+◌, ◌-◌, ◌^◌, ◌<◌, eqb, leb, ltb, length, Option, Some, None}
 use Rattle.std.proofs.Common.{sym, ap, arith, ne_eqb, leb-true, ltb-true}
 use Rattle.std.proofs.Math.Bool.{and-eq-true_iff}
 use Rattle.std.specs.Int.Bits.{bit_and}
@@ -24,11 +24,9 @@ use Rattle.record.specs.Consistency.{current_fits, data_fits, phase_fits, consis
 use Rattle.record.specs.Laws.StaysConsistent.{to_items, byte_consistent}
 use Rattle.record.specs.Laws.EventPlaces.{Asked, word_asked}
 use Rattle.answers.specs.declared.Stop.{Stop}
-use Rattle.registers.specs.declared.RegisterAnswer.{RegisterAnswer}
 use Rattle.registers.specs.declared.Register.{Register}
 use Rattle.config.specs.declared.PacketHeader.{PacketHeader}
 use Rattle.config.specs.declared.PartialWord.{PartialWord}
-use Rattle.config.specs.declared.Current.{Current}
 use Rattle.config.specs.declared.Registers.{Registers}
 use Rattle.config.specs.declared.Control.{Control}
 use Rattle.config.specs.declared.Phase.{Phase}
@@ -108,10 +106,10 @@ module _ (c : Control) (empty : c.partial ≡ PartialWord.Zero) (small : AreWord
   begin_left r n =
       either Left (ready r c) (λ _. either Left (counted r (length_at c.device) n) (λ _. plain _ _ (zero_held r n)) (λ _. stop_left _)) (λ _. stop_left _)
 
-  one_left : (o : RegisterAnswer) (n : ℕ) → Left (type_one_write o n c)
+  one_left : (o : Option Register) (n : ℕ) → Left (type_one_write o n c)
   unfolding type_one_write
-  one_left RegisterAnswer.NotWritable n = stop_left _
-  one_left (RegisterAnswer.Writable r) n = either Left (eqb n 0) (λ _. plain _ _ tt) (λ _. begin_left r n)
+  one_left None n = stop_left _
+  one_left (Some r) n = either Left (eqb n 0) (λ _. plain _ _ tt) (λ _. begin_left r n)
 
   obeyed_left : (k : PacketHeader) → Left (obeyed k c)
   unfolding obeyed
@@ -135,10 +133,10 @@ module _ (c : Control) (empty : c.partial ≡ PartialWord.Zero) (small : AreWord
     put_small : (r : Register) → Put r
     put_small r = written_small r w c.registers word_small small
 
-    stored_left : (n : Current) (left filled : ℕ) → Left (frame_stored n left filled c w)
+    stored_left : (n : Option ℕ) (left filled : ℕ) → Left (frame_stored n left filled c w)
     unfolding frame_stored address_of
-    stored_left (Current.Frame n) left filled = record { held = (tt, refl); empty = empty; registers = put_small Register.Fdri }
-    stored_left Current.NoFrame left filled = stop_left _
+    stored_left (Some n) left filled = record { held = (tt, refl); empty = empty; registers = put_small Register.Fdri }
+    stored_left None left filled = stop_left _
 
     fdri_left : (left filled : ℕ) → Left (fdri_word left filled c w)
     unfolding fdri_word ended address_of
@@ -147,10 +145,10 @@ module _ (c : Control) (empty : c.partial ≡ PartialWord.Zero) (small : AreWord
         (λ _. either Left (ltb (filled + 1) (length_at c.device)) (λ _. record { held = (tt, refl); empty = empty; registers = put_small Register.Fdri })
         (λ _. stored_left c.current left filled))
 
-    second_left : (n : Current) → Left (mfwr_stored n c w)
+    second_left : (n : Option ℕ) → Left (mfwr_stored n c w)
     unfolding mfwr_stored ended address_of
-    second_left (Current.Frame n) = record { held = tt; empty = empty; registers = put_small Register.Mfwr }
-    second_left Current.NoFrame = stop_left _
+    second_left (Some n) = record { held = tt; empty = empty; registers = put_small Register.Mfwr }
+    second_left None = stop_left _
 
     data_left : (r : Register) (left filled : ℕ) → Held (Phase.Data r left filled) PartialWord.Zero → Left (data_word r left filled c w)
     unfolding data_word far_word cmd_word mfwr_word flr_word idcode_word
@@ -275,15 +273,15 @@ held_range Phase.Crc c h f = tt
 held_range (Phase.Stopped s) c h f = tt
 
 -- a frame under F is none of the image's numbers for no frame
-current_range : (d : ℕ) (n : Current) → current_fits d n ≡ true → CurrentInRange n
+current_range : (d : ℕ) (n : Option ℕ) → current_fits d n ≡ true → CurrentInRange n
 unfolding current_fits
-current_range d (Current.Frame n) h = omega (arith, ltb-true n (count_at d) h, count_fits d)
-current_range d Current.NoFrame h = tt
+current_range d (Some n) h = omega (arith, ltb-true n (count_at d) h, count_fits d)
+current_range d None h = tt
 
-current_whole : (d : ℕ) (n : Current) → current_fits d n ≡ true → kept_current n ≡ n
+current_whole : (d : ℕ) (n : Option ℕ) → current_fits d n ≡ true → kept_current n ≡ n
 unfolding current_fits
-current_whole d (Current.Frame n) h = rw (ne_eqb n 0xFFFFFFFF (λ e. omega (arith, ltb-true n (count_at d) h, count_fits d)))
-current_whole d Current.NoFrame h = refl
+current_whole d (Some n) h = rw (ne_eqb n 0xFFFFFFFF (λ e. omega (arith, ltb-true n (count_at d) h, count_fits d)))
+current_whole d None h = refl
 
 -- from what is remembered of a consistent record its image loses nothing
 remembered_lossless : (d : Record) → consistent d.phase d.control ≡ true → Remembered d.phase d.control

@@ -1,12 +1,11 @@
 -- Encoding and decoding are inverse to each other, as far as an image keeps a record.
 -- Word by word: each number of the head reads back, and the frame's words from their bytes.
-use Rattle.std.specs.Prelude.{◌≡◌, refl, Bool, true, false, cond, List, [], ◌++◌, ℕ, ◌≤◌, eqb, length, get_or, drop}
+use Rattle.std.specs.Prelude.{◌≡◌, refl, Bool, true, false, cond, List, [], ◌++◌, ℕ, ◌≤◌, eqb, length, get_or, drop, Option, Some, None}
 use Rattle.std.proofs.Common.{◌∙◌, sym, ap, append-nil, arith, drop_of_length-le}
 use Rattle.std.proofs.Math.Bool.{and-eq-true_iff}
 use borrow.Author.Tests.{eq-eqb, eqb-true}
 use Rattle.std.proofs.Math.Seq.{drop_at}
 use Rattle.registers.specs.RegisterAddresses.{is_fdri}
-use Rattle.config.specs.declared.Current.{Current}
 use Rattle.config.specs.declared.Control.{Control}
 use Rattle.config.specs.declared.Phase.{Phase}
 use Rattle.words.specs.WordsInBytes.{bytes_of, words_at, starts}
@@ -58,13 +57,13 @@ cond_twice : (on : Bool) (n : ℕ) → cond on (cond on n 0) 0 ≡ cond on n 0
 cond_twice true n = refl
 cond_twice false n = refl
 
-frame_kept : (none : Bool) (n : ℕ) → eqb n 0xFFFFFFFF ≡ none → current_number (cond none Current.NoFrame (Current.Frame n)) ≡ n
+frame_kept : (none : Bool) (n : ℕ) → eqb n 0xFFFFFFFF ≡ none → current_number (cond none None (Some n)) ≡ n
 frame_kept true n e = sym (eqb-true n 0xFFFFFFFF e)
 frame_kept false n e = refl
 
-current_kept : (c : Current) → current_number (kept_current c) ≡ current_number c
-current_kept (Current.Frame n) = frame_kept (eqb n 0xFFFFFFFF) n refl
-current_kept Current.NoFrame = refl
+current_kept : (c : Option ℕ) → current_number (kept_current c) ≡ current_number c
+current_kept (Some n) = frame_kept (eqb n 0xFFFFFFFF) n refl
+current_kept None = refl
 
 head_kept : (p : Phase) (c : Control) → head_words (kept_phase p) (kept_control p c) ≡ head_words p c
 unfolding head_words words_filled

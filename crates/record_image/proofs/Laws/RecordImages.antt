@@ -1,14 +1,12 @@
 -- Which bytes are taken for a record: exactly the images of consistent records.
 -- By the round trip: what an image loses of a record has no part in its consistency.
-use Rattle.std.specs.Prelude.{◌≡◌, refl, Bool, true, false, cond, ◌&&◌, List, ℕ, ◌+◌, ◌%◌, eqb, leb, ltb}
-use Rattle.std.proofs.Common.{ap}
+use Rattle.std.specs.Prelude.{◌≡◌, refl, Bool, true, false, cond, ◌&&◌, List, ℕ, ◌+◌, ◌%◌, eqb, leb, ltb, Option, Some, None}
+use Rattle.std.proofs.Common.{◌∙◌, ap}
 use Rattle.std.proofs.Math.Bool.{and-eq-true_iff}
-use Rattle.std.proofs.lemmas.Bool.{false≢true}
-use Rattle.registers.specs.CommandCodes.{last_command}
 use Rattle.registers.specs.RegisterAddresses.{is_fdri, is_mfwr}
 use Rattle.parts.specs.Table.{length_at}
+use Rattle.record.specs.Laws.StaysConsistent.{to_items, from_items}
 use Rattle.record.specs.Consistency.{current_fits, data_fits, phase_fits, consistent}
-use Rattle.config.specs.declared.Current.{Current}
 use Rattle.config.specs.declared.Control.{Control}
 use Rattle.config.specs.declared.Phase.{Phase}
 use Rattle.record.specs.declared.Record.{Record}
@@ -19,14 +17,14 @@ use Rattle.record_image.specs.Laws.KeptRecord.{InRange, kept_current, kept_phase
 use Rattle.record_image.proofs.Laws.ImageRoundTrip.{decode_image, accepted_image_lem, image_accepted}
 
 -- no frame fits every part
-frame_fits : (device : ℕ) (none : Bool) (n : ℕ) → current_fits device (Current.Frame n) ≡ true → current_fits device (cond none Current.NoFrame (Current.Frame n)) ≡ true
+frame_fits : (device : ℕ) (none : Bool) (n : ℕ) → current_fits device (Some n) ≡ true → current_fits device (cond none None (Some n)) ≡ true
 unfolding current_fits
 frame_fits device true n h = refl
 frame_fits device false n h = h
 
-current_fits_lem : (device : ℕ) (c : Current) → current_fits device c ≡ true → current_fits device (kept_current c) ≡ true
-current_fits_lem device (Current.Frame n) h = frame_fits device (eqb n 0xFFFFFFFF) n h
-current_fits_lem device Current.NoFrame h = h
+current_fits_lem : (device : ℕ) (c : Option ℕ) → current_fits device c ≡ true → current_fits device (kept_current c) ≡ true
+current_fits_lem device (Some n) h = frame_fits device (eqb n 0xFFFFFFFF) n h
+current_fits_lem device None h = h
 
 -- words filled count in data of FDRI only
 filled_fits : (fdri : Bool) (f : ℕ → Bool) (other : Bool) (filled : ℕ) → cond fdri (f (cond fdri filled 0)) other ≡ cond fdri (f filled) other
@@ -44,18 +42,16 @@ phase_fits_lem (Phase.Data r left filled) c =
 phase_fits_lem Phase.Crc c = refl
 phase_fits_lem (Phase.Stopped s) c = refl
 
-second_true : (a b b' c d e : Bool) → (b ≡ true → b' ≡ true) → a && b && c && d && e ≡ true → a && b' && c && d && e ≡ true
-second_true true true b' c d e k h = rw (k refl) h
-second_true true false b' c d e k h = absurd (false≢true h)
-second_true false b b' c d e k h = absurd (false≢true h)
-
 kept_consistent : (d : Record) → consistent d.phase d.control ≡ true → consistent (kept d).phase (kept d).control ≡ true
-unfolding consistent
 kept_consistent d h =
     let c = d.control in
-    rw (phase_fits_lem d.phase c)
-    (second_true (leb c.device 7) (current_fits c.device c.current) (current_fits c.device (kept_current c.current)) (ltb c.registers.crc 65536)
-    (leb c.registers.cmd last_command) (phase_fits d.phase c) (current_fits_lem c.device c.current) h)
+    let k = to_items d.phase c h in
+    let s = k.state in
+    from_items _ _
+    (record {
+      state = record { device = s.device; current = current_fits_lem c.device c.current s.current; crc = s.crc; cmd = s.cmd };
+      phase = phase_fits_lem d.phase c ∙ k.phase;
+    })
 
 -- what is asked of bytes before they are taken for a record: that they are accepted, and that their record is consistent
 abbrev pub taken_image : List ℕ → Bool

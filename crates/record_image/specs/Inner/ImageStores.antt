@@ -1,35 +1,15 @@
--- The stores and the comparisons of an image: the head's words and then the frame's; and the frame's words, read one by one.
+-- The stores and the comparisons of an image: the head's words and then the frame's.
 -- By the laws of words that are joined from two lists.
-use Rattle.std.specs.Prelude.{◌≡◌, refl, List, ◌&&◌, ℕ, suc, ◌+◌, ◌*◌, ◌-◌, ◌≤◌, ◌<◌, length, set}
-use Rattle.std.proofs.Common.{◌∙◌, arith, add-one, length-append}
-use Rattle.std.proofs.lemmas.List.Edits.{sets}
-use Rattle.words.specs.WordsInBytes.{words_from, words_at, put_words, starts, has_words}
+use Rattle.std.specs.Prelude.{◌≡◌, refl, List, ◌&&◌, ℕ, ◌+◌, ◌*◌, length}
+use Rattle.std.proofs.Common.{◌∙◌, arith, length-append}
+use Rattle.words.specs.WordsInBytes.{put_words, starts, has_words}
 use Rattle.words.proofs.Laws.WordBytes.{bytes_length}
-use Rattle.words.proofs.Laws.WordReads.{words_next}
 use Rattle.words.proofs.Laws.WordStores.{sets_all, put_append}
 use Rattle.words.proofs.Laws.WordTests.{has_append}
 use Rattle.config.specs.declared.Phase.{Phase}
 use Rattle.config.specs.declared.Control.{Control}
 use Rattle.record.specs.declared.Record.{Record}
 use Rattle.record_image.specs.Image.{head_words, image_words, image, record_length}
-use Rattle.record_image.specs.Decode.{image_word}
-
--- ---- the frame's words
-
--- one word of the rest is read and stored
-pub sets_read : (bytes l : List ℕ) (k n i : ℕ) → i < n
-    → sets l i (words_at bytes (4 * (k + i)) (n - i)) ≡ sets (set l i (image_word bytes (k + i))) (i + 1) (words_at bytes (4 * (k + (i + 1))) (n - (i + 1)))
-sets_read bytes l k n i h =
-    let e : n - i ≡ suc (n - (i + 1)) = omega arith in
-    let f : 4 * (k + (i + 1)) ≡ 4 * (k + i) + 4 = omega arith in
-    rw (e, f, add-one, words_next bytes (4 * (k + i)) (n - suc i))
-
--- after the last word there is nothing to read
-pub read_done : (bytes l : List ℕ) (at n i : ℕ) → n ≤ i → sets l i (words_at bytes at (n - i)) ≡ l
-unfolding words_from
-read_done bytes l at n i h = let e : n - i ≡ 0 = omega arith in rw e
-
--- ---- the image
 
 pub head_length : (p : Phase) (c : Control) → length (head_words p c) ≡ 24
 unfolding head_words

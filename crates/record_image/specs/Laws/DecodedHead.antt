@@ -1,7 +1,7 @@
 -- Each number of the image, read back, names what it was made from.
 -- By cases on what it was made from; bytes and flags by the arithmetic of their places.
-use Rattle.std.specs.Prelude.{◌≡◌, refl, Bool, true, false, ℕ, zero, suc, ◌+◌, ◌-◌, ◌*◌, ◌/◌, ◌%◌, ◌^◌, ◌≤◌, ◌<◌, List, [], ◌∷◌, length, get_or}
-use Rattle.std.proofs.Common.{◌∙◌, sym, shr-shr, ne_eqb}
+use Rattle.std.specs.Prelude.{◌≡◌, refl, Bool, true, false, ℕ, ◌+◌, ◌-◌, ◌*◌, ◌/◌, ◌%◌, ◌^◌, ◌≤◌, Option, Some, None}
+use Rattle.std.proofs.Common.{ne_eqb}
 use Rattle.std.proofs.Math.Path.{ap}
 use native.Mathlib.Omega.{arith}
 use Rattle.std.proofs.Math.Dec.{eqb}
@@ -9,26 +9,24 @@ use Rattle.registers.specs.RegisterAddresses.{address_of}
 use Rattle.registers.specs.Laws.AddressLookup.{register_address}
 use Rattle.answers.specs.StopsAndRefusals.{stop_number}
 use Rattle.registers.specs.declared.Register.{Register}
-use Rattle.config.specs.declared.Open.{Open}
 use Rattle.answers.specs.declared.Stop.{Stop}
 use Rattle.config.specs.declared.PartialWord.{PartialWord}
-use Rattle.config.specs.declared.Current.{Current}
 use Rattle.config.specs.declared.Flags.{Flags}
 use Rattle.config.specs.declared.Phase.{Phase}
 use Rattle.record_image.specs.Image.{phase_number, open_number, argument, words_left, words_filled, pending, bytes_count, bytes_number, current_number, flag_bit, flag_bits}
-use Rattle.record_image.specs.Decode.{open_after, open_of, register_found, register_of, stop_of, pending_of, phase_of, partial_of, current_of, flags_of}
+use Rattle.record_image.specs.Decode.{open_of, register_of, stop_of, pending_of, phase_of, partial_of, current_of, flags_of}
 use Rattle.record_image.specs.Laws.KeptRecord.{PartialBytes, PhaseInRange, kept_phase, kept_partial, kept_current}
 
 -- ---- word 2
 
 register_of_lem : (r : Register) → register_of (address_of r) ≡ r
-unfolding register_of register_found
-register_of_lem r = ap register_found (register_address r)
+unfolding register_of
+register_of_lem r = rw (register_address r)
 
-open_of_lem : (o : Open) → open_of (open_number o) ≡ o
-unfolding open_of open_after
-open_of_lem Open.Closed = refl
-open_of_lem (Open.After r) =
+open_of_lem : (o : Option Register) → open_of (open_number o) ≡ o
+unfolding open_of
+open_of_lem None = refl
+open_of_lem (Some r) =
     let e : address_of r + 1 - 1 ≡ address_of r = omega arith in
     rw (ne_eqb (address_of r + 1) 0 (λ h. omega arith), e, register_address r)
 
@@ -85,69 +83,36 @@ partial_of_lem (Phase.Stopped s) b h = pending_of_lem b h
 
 -- ---- words 7 and 8
 
-pub current_of_lem : (c : Current) → current_of (current_number c) ≡ kept_current c
+pub current_of_lem : (c : Option ℕ) → current_of (current_number c) ≡ kept_current c
 unfolding current_of
-current_of_lem (Current.Frame n) = refl
-current_of_lem Current.NoFrame = refl
+current_of_lem (Some n) = refl
+current_of_lem None = refl
 
--- a flag at its place is so many times the flag
-bit_weight : (on : Bool) (w : ℕ) → flag_bit on w ≡ flag_bit on 1 * w
-bit_weight true w = omega arith
-bit_weight false w = omega arith
+-- a flag is 0 or 1, and so many times that at its place
+bit_weight : (on : Bool) (w : ℕ) → (flag_bit on w ≡ flag_bit on 1 * w) × (flag_bit on 1 ≤ 1)
+bit_weight true w = (omega arith, omega arith)
+bit_weight false w = (omega arith, omega arith)
 
-bit_small : (on : Bool) → flag_bit on 1 ≤ 1
-bit_small true = omega arith
-bit_small false = omega arith
+bit_back : (on : Bool) (n : ℕ) → n ≡ flag_bit on 1 → eqb n 1 ≡ on
+bit_back true n e = rw e
+bit_back false n e = rw e
 
-bit_is : (on : Bool) → eqb (flag_bit on 1) 1 ≡ on
-bit_is true = refl
-bit_is false = refl
-
--- the number with these bits, the first lowest
-unfoldable number : List Bool → ℕ
-number [] = 0
-number (x ∷ xs) = flag_bit x 1 + 2 * number xs
-
-number_bit : (xs : List Bool) (k : ℕ) → k < length xs → eqb (number xs / 2 ^ k % 2) 1 ≡ get_or xs k false
-unfolding number
-number_bit [] k h = absurd (omega arith)
-number_bit (x ∷ xs) zero h =
-    let e : (flag_bit x 1 + 2 * number xs) / 2 ^ 0 % 2 ≡ flag_bit x 1 = omega (arith, bit_small x) in
-    rw e (bit_is x)
-number_bit (x ∷ xs) (suc k) h =
-    let e : (flag_bit x 1 + 2 * number xs) / 2 ≡ number xs = omega (arith, bit_small x) in
-    let g : 1 + k ≡ suc k = omega arith in
-    rw (← g, ← shr-shr (flag_bit x 1 + 2 * number xs) 1 k, e) (number_bit xs k (omega arith))
-
-module _ (f : Flags) where
-  bits : List Bool
-  bits = f.idcode_ok ∷ f.flr_ok ∷ f.buffer_valid ∷ f.ghigh ∷ f.start_pending ∷ f.check_passed ∷ f.started ∷ []
-
-  flag_bits_lem : flag_bits f ≡ number bits
-  unfolding flag_bits number bits
-  flag_bits_lem =
-      omega (
-        arith,
-        bit_weight f.flr_ok 2,
-        bit_weight f.buffer_valid 4,
-        bit_weight f.ghigh 8,
-        bit_weight f.start_pending 16,
-        bit_weight f.check_passed 32,
-        bit_weight f.started 64,
-      )
-
-  pub flags_of_lem : flags_of (flag_bits f) ≡ f
-  unfolding bits
-  flags_of_lem =
-      let e : number bits / 2 ^ 0 % 2 ≡ number bits % 2 = omega arith in
-      let h : eqb (number bits % 2) 1 ≡ f.idcode_ok = ap (λ k. eqb k 1) (sym e) ∙ number_bit bits 0 (omega arith) in
-      ap flags_of flag_bits_lem
-      ∙ rw (
-        h,
-        number_bit bits 1 (omega arith),
-        number_bit bits 2 (omega arith),
-        number_bit bits 3 (omega arith),
-        number_bit bits 4 (omega arith),
-        number_bit bits 5 (omega arith),
-        number_bit bits 6 (omega arith),
-      )
+pub flags_of_lem : (f : Flags) → flags_of (flag_bits f) ≡ f
+unfolding flag_bits
+flags_of_lem f =
+    let a = bit_weight f.idcode_ok 1 in
+    let b = bit_weight f.flr_ok 2 in
+    let c = bit_weight f.buffer_valid 4 in
+    let d = bit_weight f.ghigh 8 in
+    let e = bit_weight f.start_pending 16 in
+    let g = bit_weight f.check_passed 32 in
+    let h = bit_weight f.started 64 in
+    rw (
+      bit_back f.idcode_ok (flag_bits f % 2) (omega arith),
+      bit_back f.flr_ok (flag_bits f / 2 % 2) (omega arith),
+      bit_back f.buffer_valid (flag_bits f / 4 % 2) (omega arith),
+      bit_back f.ghigh (flag_bits f / 8 % 2) (omega arith),
+      bit_back f.start_pending (flag_bits f / 16 % 2) (omega arith),
+      bit_back f.check_passed (flag_bits f / 32 % 2) (omega arith),
+      bit_back f.started (flag_bits f / 64 % 2) (omega arith),
+    )

@@ -1,14 +1,12 @@
 -- Bounds of the image's numbers.
 -- By cases: each is one of a few numerals, or a sum of bytes or of flags at their places.
-use Rattle.std.specs.Prelude.{ℕ, ◌^◌, ◌≤◌, ◌<◌, Bool, true, false, cond}
+use Rattle.std.specs.Prelude.{ℕ, ◌^◌, ◌≤◌, ◌<◌, Bool, true, false, cond, Option, Some, None}
 use Rattle.std.proofs.Common.{arith}
 use Rattle.registers.specs.RegisterAddresses.{is_fdri}
 use Rattle.registers.specs.Laws.AddressLookup.{address_bound}
 use Rattle.answers.specs.StopsAndRefusals.{stop_number}
-use Rattle.config.specs.declared.Open.{Open}
 use Rattle.answers.specs.declared.Stop.{Stop}
 use Rattle.config.specs.declared.PartialWord.{PartialWord}
-use Rattle.config.specs.declared.Current.{Current}
 use Rattle.config.specs.declared.Flags.{Flags}
 use Rattle.config.specs.declared.Phase.{Phase}
 use Rattle.record.specs.declared.Record.{Record}
@@ -39,8 +37,8 @@ phase_bound (Phase.Stopped s) = omega arith
 
 argument_bound : (p : Phase) → argument p ≤ 15
 argument_bound (Phase.Hunting b) = omega arith
-argument_bound (Phase.Header Open.Closed) = omega arith
-argument_bound (Phase.Header (Open.After r)) = omega (arith, address_bound r)
+argument_bound (Phase.Header None) = omega arith
+argument_bound (Phase.Header (Some r)) = omega (arith, address_bound r)
 argument_bound (Phase.Data r left filled) = omega (arith, address_bound r)
 argument_bound Phase.Crc = omega arith
 argument_bound (Phase.Stopped s) = omega (arith, stop_bound s)
@@ -85,9 +83,9 @@ number_bound (PartialWord.Two a b) h = omega arith
 number_bound (PartialWord.Three a b c) h = omega arith
 
 -- words 7 and 8
-current_bound : (c : Current) → CurrentInRange c → current_number c < 2 ^ 32
-current_bound (Current.Frame n) h = h
-current_bound Current.NoFrame h = omega arith
+current_bound : (c : Option ℕ) → CurrentInRange c → current_number c < 2 ^ 32
+current_bound (Some n) h = h
+current_bound None h = omega arith
 
 bit_bound : (on : Bool) (w : ℕ) → flag_bit on w ≤ w
 bit_bound true w = omega arith

@@ -1,10 +1,9 @@
 -- Records whose numbers have the sizes that the code's types give them, and what an image keeps of a record.
 -- Definitions alone, for the laws beside it: docs/C-INTERFACE.md, "The record's image, edition 1", words 4 to 7.
-use Rattle.std.specs.Prelude.{◌^◌, ◌<◌, ◌≡◌, cond, eqb, length as length·}
+use Rattle.std.specs.Prelude.{◌^◌, ◌<◌, ◌≡◌, cond, eqb, length as length·, Option, Some, None, ℕ}
 use Rattle.words.specs.Laws.ByteLists.{AreWords}
 use Rattle.registers.specs.RegisterAddresses.{is_fdri}
 use Rattle.config.specs.declared.PartialWord.{PartialWord}
-use Rattle.config.specs.declared.Current.{Current}
 use Rattle.config.specs.declared.Control.{Control}
 use Rattle.config.specs.declared.Phase.{Phase}
 use Rattle.record.specs.declared.Record.{Record}
@@ -26,9 +25,9 @@ PhaseInRange (Phase.Data r left filled) = (left < 2 ^ 32) × (filled < 2 ^ 32)
 PhaseInRange Phase.Crc = Unit {0}
 PhaseInRange (Phase.Stopped s) = Unit {0}
 
-abbrev pub CurrentInRange : Current → Type 0
-CurrentInRange (Current.Frame n) = n < 2 ^ 32
-CurrentInRange Current.NoFrame = Unit {0}
+abbrev pub CurrentInRange : Option ℕ → Type 0
+CurrentInRange (Some n) = n < 2 ^ 32
+CurrentInRange None = Unit {0}
 
 pub record InRange (d : Record) : Type 0 where
   pub phase : PhaseInRange d.phase
@@ -58,9 +57,9 @@ kept_partial Phase.Crc b = b
 kept_partial (Phase.Stopped s) b = b
 
 -- 7: "FFFFFFFF for none"
-abbrev pub kept_current : Current → Current
-kept_current (Current.Frame n) = cond (eqb n 0xFFFFFFFF) Current.NoFrame (Current.Frame n)
-kept_current Current.NoFrame = Current.NoFrame
+abbrev pub kept_current : Option ℕ → Option ℕ
+kept_current (Some n) = cond (eqb n 0xFFFFFFFF) None (Some n)
+kept_current None = None
 
 abbrev pub kept_control : Phase → Control → Control
 kept_control p c = record { device = c.device; registers = c.registers; flags = c.flags; current = kept_current c.current; partial = kept_partial p c.partial }

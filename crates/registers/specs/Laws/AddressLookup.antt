@@ -1,12 +1,11 @@
 -- The register at a register's address is that register, and the addresses end at 14.
 -- By the cases of the registers.
-use Rattle.std.specs.Prelude.{◌≡◌, refl, ◌≤◌}
+use Rattle.std.specs.Prelude.{◌≡◌, refl, ◌≤◌, Some}
 use Rattle.std.proofs.Common.{arith}
 use Rattle.registers.specs.RegisterAddresses.{address_of, register_at}
 use Rattle.registers.specs.declared.Register.{Register}
-use Rattle.registers.specs.declared.RegisterAnswer.TheVariants as RegisterAnswer
 
-pub register_address : (r : Register) → register_at (address_of r) ≡ RegisterAnswer.Writable r
+pub register_address : (r : Register) → register_at (address_of r) ≡ Some r
 unfolding address_of register_at
 register_address Register.Crc = refl
 register_address Register.Far = refl

@@ -1,14 +1,12 @@
 -- The image that a load, power-on or a reconfiguration leaves is accepted again, and decodes to the record that the call left.
 -- No byte leaves what its image loses; so no run of bytes does, and a call that is refused leaves the record as it was.
-use Rattle.std.specs.Prelude.{◌≡◌, refl, List, [], ◌∷◌, Bool, true, false, ℕ, zero, suc, ◌^◌, ◌≤◌, ◌<◌, eqb, length, replicate, set}
+use Rattle.std.specs.Prelude.{◌≡◌, refl, List, [], ◌∷◌, Bool, true, false, ℕ, zero, suc, ◌^◌, ◌≤◌, ◌<◌, eqb, length, replicate, set, Result, Ok, Err}
 use Rattle.std.proofs.Common.{◌∙◌, arith}
 use Rattle.std.proofs.lemmas.List.{length-replicate}
 use Rattle.parts.specs.Laws.Cases.{either}
 use Rattle.words.specs.Laws.ByteLists.{AreWords, AreBytes}
 use Rattle.words.proofs.Laws.WordBytes.{bytes_small}
 use Rattle.parts.specs.Table.{part_of, memory_at}
-use Rattle.parts.specs.declared.table.PartAnswer.{PartAnswer}
-use Rattle.answers.specs.declared.Answer.{Answer}
 use Rattle.config.specs.PhaseTests.{is_hunting}
 use Rattle.config.specs.declared.Event.{Event}
 use Rattle.record.specs.Consistency.{consistent}
@@ -38,6 +36,9 @@ use Rattle.record_image.specs.Laws.FreshImage.{fresh_lossless}
 use Rattle.record_image.proofs.Laws.AcceptedImages.{accepted_length, accepted_lossless, encoded_image, written_accepted, written_decoded}
 use Rattle.seamwillow.specs.RecordCalls.{result_of, powered_image, loaded_image, reconfigured_image}
 use Rattle.seamwillow.specs.Laws.RefusedCalls.{loaded_done, powered_done, reconfigured_done}
+use Rattle.answers.specs.AnswerNumbers.{Answer}
+use Rattle.parts.specs.declared.table.Part.{Part}
+use Rattle.answers.specs.declared.Refusal.{Refusal}
 
 -- ---- after a load
 
@@ -93,10 +94,10 @@ module _ (i m s : List ℕ) (bytes : AreBytes s) (a : accepted_image i ≡ true)
 
 -- ---- after power-on
 
-powered_lossless : (q : PartAnswer) (d : ℕ) (m : List ℕ) → d < 2 ^ 32 → Lossless (powered q d m).«record»
+powered_lossless : (q : Result Part Refusal) (d : ℕ) (m : List ℕ) → d < 2 ^ 32 → Lossless (powered q d m).«record»
 unfolding powered
-powered_lossless (PartAnswer.Known p) d m h = either (λ (o : Outcome). Lossless o.«record») (eqb (length m) (memory_at d)) (λ _. fresh_lossless d h) (λ _. fresh_lossless 0 (omega arith))
-powered_lossless (PartAnswer.Refused c) d m h = fresh_lossless 0 (omega arith)
+powered_lossless (Ok p) d m h = either (λ (o : Outcome). Lossless o.«record») (eqb (length m) (memory_at d)) (λ _. fresh_lossless d h) (λ _. fresh_lossless 0 (omega arith))
+powered_lossless (Err c) d m h = fresh_lossless 0 (omega arith)
 
 fresh_loadable : (d : ℕ) → d ≤ 7 → Loadable (fresh d) (replicate (memory_at d) 0)
 unfolding fresh fresh_control
@@ -136,8 +137,8 @@ stream_bytes d (Reading.Refused c at) = tt
 module _ (m : List ℕ) (r : FrameRange) (b out : List ℕ) where
   after_lossless : (d : Record) (v : Answer) → Lossless d → Lossless (reconfigured_after d m r b out v).«record»
   unfolding reconfigured_after
-  after_lossless d (Answer.Done n) k = load_lossless d m _ (stream_bytes d.control.device _) k
-  after_lossless d (Answer.Refused c at) k = k
+  after_lossless d (Ok n) k = load_lossless d m _ (stream_bytes d.control.device _) k
+  after_lossless d (Err e) k = k
 
   reconfigured_lossless : (d : Record) → Lossless d → Lossless (reconfigured d m r b out).«record»
   unfolding reconfigured

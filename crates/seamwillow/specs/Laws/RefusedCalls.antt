@@ -1,6 +1,6 @@
 -- What each call on a record's image does, case by case; a refused call changes nothing.
 -- By the tests of the definitions; an accepted image is what writing its own record back leaves.
-use Rattle.std.specs.Prelude.{◌≡◌, ◌≢◌, ℕ, List, Bool, true, false, eqb, length}
+use Rattle.std.specs.Prelude.{◌≡◌, ◌≢◌, ℕ, List, Bool, true, false, eqb, length, Ok, Err}
 use Rattle.std.proofs.Common.{◌∙◌, sym, eq-eqb, ne_eqb}
 use Rattle.std.proofs.Math.Path.{refl}
 use Rattle.std.proofs.Math.Bool.{and-eq-true_iff}
@@ -8,7 +8,6 @@ use Rattle.config.specs.PhaseTests.{is_hunting}
 use Rattle.record.specs.Consistency.{consistent}
 use Rattle.record.specs.declared.Record.{Record}
 use Rattle.answers.specs.declared.Refusal.TheVariants as Refusal
-use Rattle.answers.specs.declared.Answer.{Answer}
 use Rattle.record.specs.PowerOn.{power_on}
 use Rattle.parts.specs.Laws.Cases.{either}
 use Rattle.parts.specs.Table.{memory_at}
@@ -22,6 +21,7 @@ use Rattle.record_image.specs.Decode.{decoded}
 use Rattle.record_image.specs.Compare.{is_image, accepted_image}
 use Rattle.record_image.proofs.Laws.ImageRoundTrip.{accepted_image_lem}
 use Rattle.seamwillow.specs.RecordCalls.{refused_image, result_of, powered_image, loaded_image, Changed, kept_image, changed_of, reconfigured_image}
+use Rattle.answers.specs.AnswerNumbers.{refused, Answer}
 
 -- comparing bytes with the record that they decode to tells whether they are accepted
 pub compared : (i : List ℕ) (d : Record) (same : Bool) → d ≡ decoded i → same ≡ is_image d i → accepted_image i ≡ same
@@ -62,7 +62,7 @@ module _ (r m s : List ℕ) where
   wrong_memory_refused a h n = loaded_done a ∙ rw (load_wrong_memory (decoded r) m s h n, written_back r a)
 
 module _ (i m : List ℕ) (r : FrameRange) (b out : List ℕ) where
-  pub reconfigured_refused : accepted_image i ≡ false → reconfigured_image i m r b out ≡ kept_image (Answer.Refused Refusal.Inconsistent 0) i m out
+  pub reconfigured_refused : accepted_image i ≡ false → reconfigured_image i m r b out ≡ kept_image (Err (refused Refusal.Inconsistent 0)) i m out
   unfolding reconfigured_image
   reconfigured_refused h = rw h
 
@@ -71,7 +71,7 @@ module _ (i m : List ℕ) (r : FrameRange) (b out : List ℕ) where
   reconfigured_done h = rw h
 
   -- the image of an inconsistent record is refused as bytes that are no image are
-  pub inconsistent_unchanged : accepted_image i ≡ true → consistent (decoded i).phase (decoded i).control ≡ false → reconfigured_image i m r b out ≡ kept_image (Answer.Refused Refusal.Inconsistent 0) i m out
+  pub inconsistent_unchanged : accepted_image i ≡ true → consistent (decoded i).phase (decoded i).control ≡ false → reconfigured_image i m r b out ≡ kept_image (Err (refused Refusal.Inconsistent 0)) i m out
   inconsistent_unchanged a h = reconfigured_done a ∙ rw (inconsistent_so (decoded i) m r b out h, written_back i a)
 
   abbrev Leaves : Changed → Type 0
@@ -79,8 +79,8 @@ module _ (i m : List ℕ) (r : FrameRange) (b out : List ℕ) where
 
   after_leaves : accepted_image i ≡ true → (v : Answer) → Leaves (changed_of (reconfigured_after (decoded i) m r b out v) i)
   unfolding reconfigured_after
-  after_leaves a (Answer.Done n) refused = absurd (refused refl)
-  after_leaves a (Answer.Refused c at) refused = (written_back i a, refl, refl)
+  after_leaves a (Ok n) refused = absurd (refused refl)
+  after_leaves a (Err e) refused = (written_back i a, refl, refl)
 
   -- "Every refusal leaves record, memory and out as they were"
   pub refusal_leaves : Leaves (reconfigured_image i m r b out)

@@ -1,9 +1,10 @@
 -- Words stored one after the other from an offset on: they join, the next of them, and that bytes past the end are left out.
 -- By induction on the bytes that are stored.
 use Rattle.std.specs.Prelude.{◌≡◌, refl, List, [], ◌∷◌, ◌++◌, ℕ, suc, ◌+◌, ◌*◌, ◌/◌, ◌%◌, ◌^◌, ◌≤◌, ◌<◌, length, get_or, take, drop, set}
-use Rattle.std.proofs.Common.{◌∙◌, sym, ap, append-nil, add-one, arith, drop_of_length-le, take-append-drop, length-take-le, drop-cons}
+use Rattle.std.proofs.Common.{◌∙◌, sym, ap, append-nil, append_assoc, add-one, arith, drop_of_length-le, take-append-drop, length-take-le, drop-cons, drop-drop}
 use Rattle.std.proofs.lemmas.List.Edits.{sets, sets-eq}
 use Rattle.std.proofs.Math.Seq.{length-sets, set_out}
+use borrow.Rule.Slice.PartMut.{put_mid}
 use Rattle.words.specs.WordsInBytes.{bytes_of, put_words}
 use Rattle.words.proofs.Laws.WordBytes.{bytes_length, bytes_append}
 
@@ -71,3 +72,10 @@ put_bytes bytes at w =
     let e2 : at + 2 ≡ suc (suc at) = omega arith in
     let e3 : at + 3 ≡ suc (suc (suc at)) = omega arith in
     rw (e1, e2, e3)
+
+-- so is a copy of its four bytes
+pub put_copied : (bytes new : List ℕ) (at k w : ℕ) → at + 4 ≤ length bytes → k ≡ 4 → new ≡ bytes_of (w ∷ []) → put_mid at k bytes new ≡ put_words bytes at (w ∷ [])
+unfolding bytes_of
+put_copied bytes new at k w h four e =
+    rw (four, e, drop-drop 4 at bytes)
+    (sym (sets-eq (bytes_of (w ∷ [])) bytes at h ∙ append_assoc (take at bytes) (bytes_of (w ∷ [])) (drop (at + 4) bytes)))

@@ -1,11 +1,12 @@
 -- Words compared one after the other from an offset on: a list that starts with another, the next word, and that four bytes are a word's where the word read is that word.
 -- By induction on the bytes; a word is equal where its four bytes are.
-use Rattle.std.specs.Prelude.{◌≡◌, refl, List, [], ◌∷◌, ◌++◌, Bool, true, false, ◌&&◌, ℕ, suc, ◌+◌, ◌*◌, ◌^◌, ◌≤◌, ◌<◌, eqb, length, get_or, drop}
-use Rattle.std.proofs.Common.{◌∙◌, sym, ap, add-one, arith, drop_of_length-le, length-drop, drop-cons, drop-drop, eq-eqb, ne_eqb, eqb-true}
+use Rattle.std.specs.Prelude.{◌≡◌, refl, List, [], ◌∷◌, ◌++◌, Bool, true, false, ◌&&◌, ℕ, zero, suc, ◌+◌, ◌*◌, ◌^◌, ◌≤◌, ◌<◌, eqb, length, get_or, drop}
+use Rattle.std.specs.List.{list_all, enumerate_from}
+use Rattle.std.proofs.Common.{◌∙◌, sym, ap, ap₂, add-one, add-zero, arith, drop_of_length-le, length-drop, drop-cons, drop-drop, eq-eqb, ne_eqb, eqb-true}
 use Rattle.std.proofs.lemmas.Bool.{false≢true}
 use Rattle.std.proofs.Math.Bool.{and_assoc, and-false, and-eq-true_iff}
 use Rattle.words.specs.WordsInBytes.{bytes_of, word_at, starts, has_words}
-use Rattle.words.specs.Laws.ByteLists.{AreBytes, byte_at}
+use Rattle.words.specs.Laws.ByteLists.{AreBytes, all_bytes, byte_at}
 use Rattle.words.proofs.Laws.WordBytes.{bytes_length, bytes_append, word_bytes, four_back}
 use Rattle.words.proofs.Laws.WordReads.{word_drop, four_bytes}
 
@@ -85,3 +86,27 @@ never false h = refl
 -- and it is not there where another is read
 pub has_other : (bytes : List ℕ) (at w : ℕ) → w < 2 ^ 32 → (word_at bytes at ≡ w → ⊥) → has_words bytes at (w ∷ []) ≡ false
 has_other bytes at w small h = never _ (λ e. h (word_had bytes at w small e))
+
+-- a word is there where the word that is read is that word
+has_one : (bytes : List ℕ) (at w : ℕ) → AreBytes bytes → at + 4 ≤ length bytes → w < 2 ^ 32 → (t : Bool) → eqb (word_at bytes at) w ≡ t → has_words bytes at (w ∷ []) ≡ t
+has_one bytes at w small h fits true e = has_word bytes at w small h (eqb-true (word_at bytes at) w e)
+has_one bytes at w small h fits false e = has_other bytes at w fits (λ q. false≢true (sym e ∙ eq-eqb (word_at bytes at) w q))
+
+-- a word with its number is read where words from an offset on are
+abbrev pub is_read : List ℕ → ℕ → ℕ × ℕ → Bool
+is_read bytes at p = eqb (word_at bytes (at + 4 * p.0)) p.1
+
+-- words that have room are there where all of them are read
+module _ (bytes : List ℕ) (at : ℕ) (words : List ℕ) (small : (i : ℕ) → get_or bytes i 0 < 2 ^ 8) (fits : (i : ℕ) → get_or words i 0 < 2 ^ 32) (h : at + 4 * length words ≤ length bytes) where
+  -- n of them are left, from word i on
+  left : (n i : ℕ) → i + n ≡ length words → list_all (is_read bytes at) (enumerate_from i (drop i words)) ≡ has_words bytes (at + 4 * i) (drop i words)
+  left zero i e = rw (has_done bytes (at + 4 * i) words i (omega arith), drop_of_length-le words {i = i} (omega arith))
+  left (suc n) i e =
+      let w = get_or words i 0 in
+      let first = has_one bytes (at + 4 * i) w (all_bytes bytes small) (omega arith) (fits i) (eqb (word_at bytes (at + 4 * i)) w) refl in
+      let next = ap (λ (k : ℕ). list_all (is_read bytes at) (enumerate_from (i + 1) (drop k words))) (sym (add-one i)) in
+      ap (λ ws. list_all (is_read bytes at) (enumerate_from i ws)) (drop-cons words i 0 (omega arith))
+      ∙ ap₂ (λ s t. s && t) (sym first) (next ∙ left n (i + 1) (omega arith)) ∙ sym (has_next bytes at words i (omega arith))
+
+  pub has_read : list_all (is_read bytes at) (enumerate_from 0 words) ≡ has_words bytes at words
+  has_read = simp add-zero at (left (length words) 0 (omega arith))

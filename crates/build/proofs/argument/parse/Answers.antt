@@ -1,29 +1,29 @@
--- A digit that is none, or that leads past 2 ^ 32, ends the text as malformed; any other leads on.
-use Rattle.std.proofs.Common.{arith, get_or}
-use Rattle.build.specs.Inner.Decimal.{unfit_low, unfit_high, unfit_large, fit, parsed_none, parsed_starts, parsed_ends, parsed_goes, parsed_done}
+-- A byte that is no digit, or that leads past 2 ^ 32, ends the text as malformed; any other leads on.
+use Rattle.std.proofs.Common.{◌∙◌, sym, arith, get_or}
+use borrow.Author.Tests.{eqb-true, eqb-false}
+use Rattle.build.specs.Inner.Decimal.{unfit_byte, unfit_large, fit, parsed_none, parsed_starts, parsed_ends, parsed_goes, parsed_done}
 use Rattle.build.proofs.argument.parse.Goals as goal
 
-pub returns-then-text-eq0 : goal.returns-then-text-eq0
-returns-then-text-eq0 c = parsed_none _ (omega arith)
+pub returns-then-is_empty : goal.returns-then-is_empty
+returns-then-is_empty c = parsed_none _ (eqb-true _ _ (sym c.is_empty.ensures ∙ c.if-is_empty.true))
 
-pub loop-i-init : goal.loop-i-init
-loop-i-init c = (omega arith, parsed_starts _ (λ e. omega arith))
+pub loop-x-init : goal.loop-x-init
+loop-x-init c = (omega arith, parsed_starts _ (eqb-false _ _ (sym c.is_empty.ensures ∙ c.if-is_empty.false)))
 
-pub returns-then-x-lt48 : goal.returns-then-x-lt48
-returns-then-x-lt48 c = let l = c.loop-i in let text = c.args.text.now in
-    parsed_ends text l.i l.value (omega arith) l.invariant.1 (unfit_low l.value (get_or text l.i 0) (omega arith))
-
-pub returns-then-x-gt57 : goal.returns-then-x-gt57
-returns-then-x-gt57 c = let l = c.loop-i in let text = c.args.text.now in
-    parsed_ends text l.i l.value (omega arith) l.invariant.1 (unfit_high l.value (get_or text l.i 0) (omega arith))
+pub returns-then-not-is_ascii_digit : goal.returns-then-not-is_ascii_digit
+returns-then-not-is_ascii_digit c =
+    let l = c.loop-x in let text = c.args.text.now in
+    parsed_ends text l.x-index l.value (omega arith) l.invariant.1 (unfit_byte l.value (get_or text l.x-index 0) (sym c.is_ascii_digit.ensures.value ∙ c.if-not-is_ascii_digit.true))
 
 pub returns-then-value-gt4294967295 : goal.returns-then-value-gt4294967295
-returns-then-value-gt4294967295 c = let l = c.loop-i in let text = c.args.text.now in
-    parsed_ends text l.i l.value (omega arith) l.invariant.1 (unfit_large l.value (get_or text l.i 0) (omega arith))
+returns-then-value-gt4294967295 c =
+    let l = c.loop-x in let text = c.args.text.now in
+    parsed_ends text l.x-index l.value (omega arith) l.invariant.1 (unfit_large l.value (get_or text l.x-index 0) (omega arith))
 
-pub loop-i-preserved : goal.loop-i-preserved
-loop-i-preserved c = let l = c.loop-i in let text = c.args.text.now in
-    (omega arith, parsed_goes text l.i l.value (omega arith) l.invariant.1 (fit l.value (get_or text l.i 0) (omega arith) (omega arith) (omega arith)))
+pub loop-x-preserved : goal.loop-x-preserved
+loop-x-preserved c =
+    let l = c.loop-x in let text = c.args.text.now in
+    (omega arith, parsed_goes text l.x-index l.value (omega arith) l.invariant.1 (fit l.value (get_or text l.x-index 0) (sym c.is_ascii_digit.ensures.value ∙ c.if-not-is_ascii_digit.false) (omega arith)))
 
 pub returns : goal.returns
-returns c = let l = c.loop-i in parsed_done _ l.i l.value (omega arith) l.invariant.1
+returns c = let l = c.loop-x in parsed_done _ l.x-index l.value (omega arith) l.invariant.1

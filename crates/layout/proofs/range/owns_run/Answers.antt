@@ -1,25 +1,14 @@
--- `layout::range::owns_run` meets its contract. The invariant goes by what is left: the frames not yet passed are owned just where
--- all of the run are.
-use mathlib.Core.Path.{◌≡◌, ◌∙◌, sym}
+-- `layout::range::owns_run` meets its contract: the frames of the run are a list of numbers, and each is tried.
+use Rattle.std.proofs.Common.{◌∙◌, ◌+◌, rules, tests, refl}
 use native.Mathlib.Omega.{arith}
-use Rattle.layout.specs.Ownership.{owns, owns_run}
-use Rattle.layout.specs.Inner.CheckLoops.{run_more}
+use Rattle.std.proofs.lemmas.Iterator.{YieldsList-from_range}
+use Rattle.std.proofs.lemmas.Iterator.Search.{all_from_yields_List}
+use Rattle.layout.specs.Ownership.{owns}
+use Rattle.layout.specs.Inner.CheckLoops.{run_all}
 use Rattle.layout.proofs.range.owns_run.Goals as goal
 
-pub returns-then-not-owns : goal.returns-then-not-owns
-returns-then-not-owns c =
-    let l = c.loop-left in
-    let a = c.args.range in
-    sym (rw (sym c.owns.ensures ∙ c.if-not-owns.true) at (run_more (owns a) l.left l.frame c.loop-left-test.true)) ∙ l.invariant.1
-
-pub loop-left-preserved : goal.loop-left-preserved
-loop-left-preserved c =
-    let l = c.loop-left in
-    let a = c.args.range in
-    (omega arith, sym (rw (sym c.owns.ensures ∙ c.if-not-owns.false) at (run_more (owns a) l.left l.frame c.loop-left-test.true)) ∙ l.invariant.1)
-
 pub returns : goal.returns
-unfolding owns_run
 returns c =
-    let h : c.loop-left.left ≡ 0 = omega arith in
-    rw h at c.loop-left.invariant.1
+    let a = c.args in
+    all_from_yields_List (owns a.range) _ _ _ c.all.ensures.ran (YieldsList-from_range a.first (a.first + a.count) a.count refl (omega arith)) (λ x b q k. search (rules, tests))
+    ∙ run_all (owns a.range) a.count a.first

@@ -1,0 +1,1 @@
+pub mod Laws  -- laws of loops that are gone

@@ -1,0 +1,10 @@
+-- `parts::table::TablePart::address` meets its contract. The invariant goes by what is left: the runs not yet searched, for the number
+-- that is left, give what all columns give.
+use mathlib.Core.Path.{◌≡◌}
+use lib.ListN.{drop}
+use Rattle.parts.specs.Columns.{runs, columns_of, columns}
+use Rattle.parts.specs.FrameAddress.{address_in}
+use Rattle.parts.proofs.table.TablePart.address.Given as goal
+
+abbrev pub invariant-loop-run : goal.invariant-loop-run
+invariant-loop-run l = address_in (columns_of (drop l.run-index (runs l.fn.self.part))) l.left ≡ address_in (columns l.fn.self.part) l.number

@@ -1,0 +1,14 @@
+-- `parts::table::TablePart::number` meets its contract. The invariant goes by what is left: the runs not yet passed, with the number of
+-- their first frame, give what all columns give, and the frames passed and left are F, so that no sum wraps.
+use mathlib.Core.Path.{◌≡◌}
+use Prim.Native.Nat.{◌+◌}
+use lib.ListN.{drop}
+use Rattle.parts.specs.Table.{frame_count}
+use Rattle.parts.specs.Columns.{runs, columns_of, columns, total}
+use Rattle.parts.specs.FrameAddress.{number_in}
+use Rattle.parts.proofs.table.TablePart.number.Given as goal
+
+abbrev pub invariant-loop-run : goal.invariant-loop-run
+invariant-loop-run l =
+    (l.first + total (columns_of (drop l.run-index (runs l.fn.self.part))) ≡ frame_count l.fn.self.part)
+    × (number_in (columns_of (drop l.run-index (runs l.fn.self.part))) l.first l.block l.major l.minor ≡ number_in (columns l.fn.self.part) 0 l.block l.major l.minor)
