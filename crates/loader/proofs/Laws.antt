@@ -1,0 +1,1 @@
+pub mod OffsetTurns  -- a turn of the load at an offset of the bytes that are lent

@@ -1,0 +1,1 @@
+pub mod Laws  -- a law of a loop that is gone
