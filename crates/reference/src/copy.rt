@@ -43,7 +43,7 @@ impl Source<'_> {
         requires { (length frame.now ≡ 4 * length_at self.device) × (4 * length_at self.device * n + 4 * length_at self.device ≤ length memory.old) }
         ensures { memory.new ≡ placed (length_at self.entry.device) n frame.now memory.old }
     {
-        let size = self.frame_size();
+        let size = frame.len();
         copy(&mut memory[size * n..size * n + size], frame);
     }
 
