@@ -1,1 +1,0 @@
-pub mod Laws  -- a law of a loop that is gone
