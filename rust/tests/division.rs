@@ -44,7 +44,7 @@ fn the_address_of_a_frame_number_needs_no_division() {
         ADDRESS,
         "parts::frame::run_of",
         "parts::table::TablePart::address",
-        "parts::table::TablePart::runs",
+        "parts::table::TablePart::run",
         "parts::table::part_of",
         "parts::table::table_part",
     ];

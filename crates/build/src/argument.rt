@@ -35,6 +35,7 @@ impl fmt::Display for ArgumentError {
 }
 
 // The number that a text spells.
+#[tactic(auto, using(crate::specs::Inner::Decimal::unfit_byte, crate::specs::Inner::Decimal::parsed_ends))]
 fn parse(text: &[u8]) -> Option<u32>
     ensures { result ≡ parsed text.now }
 {

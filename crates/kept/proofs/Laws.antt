@@ -1,6 +1,5 @@
 pub mod OwnedRuns  -- a run of one frame or more is owned where its first frame is, and the rest
 pub mod LayoutTurns  -- one turn of the reader's loops over targets and steps, by the count that is left
-pub mod ImageReads  -- the frame's words of an image, read and stored one by one
 pub mod FramesPlaced  -- bytes copied one by one, and frames placed one by one, by the count that is left
 pub mod CursorWords  -- words of frame data, written and fed one after the other from a cursor on
 pub mod CursorPackets  -- packets written from a cursor on: the output and the cursor after them

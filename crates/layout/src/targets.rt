@@ -31,8 +31,10 @@ impl<'a> Desk<'a> {
         Ok(target)
     }
 
-    // The offset after the targets that stand at an offset.
+    // The offset after the targets that stand at an offset. Never inlined: beside the other values of `step` the loop's own do not all
+    // keep in registers, and a target took half as long again.
     #[tactic(auto, using(crate::specs::Inner::CheckLoops::target_refused, crate::specs::Inner::CheckLoops::target_next, crate::specs::Inner::CheckLoops::targets_done))]
+    #[inline(never)]
     pub(crate) fn past_targets(self, count: u32, start: usize) -> Result<usize, Refused>
         ensures { result ≡ ended (targets_at (count_at self.entry.device) (owns self.entry.range) self.entry.layout.now count 0 start) }
     {

@@ -126,7 +126,7 @@ impl TablePart {
     }
 
     // The bytes of all frames.
-    #[tactic(auto, unfolding(crate::specs::Table::memory_length), using(crate::proofs::Laws::PrintedFigures::length_limit, crate::proofs::Laws::PrintedFigures::memory_limit))]
+    #[tactic(auto, unfolding(crate::specs::Table::memory_length), using(crate::proofs::Laws::PrintedFigures::length_limit))]
     fn memory(self) -> u32
         ensures { result ≡ memory_length self.part }
     {

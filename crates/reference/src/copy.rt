@@ -18,6 +18,17 @@ pub(crate) struct Source<'a> {
     pub(crate) layout: &'a [u8],
 }
 
+// Bytes into as many places.
+fn copy(places: &mut [u8], bytes: &[u8])
+    requires { length places.old ≡ length bytes.now }
+    ensures { places.new ≡ bytes.now }
+{
+    // No `copy_from_slice`: that calls memmove, which the archive for C asks of no board.
+    for (k, place) in places.iter_mut().enumerate() {
+        *place = bytes[k];
+    }
+}
+
 impl Source<'_> {
     // The bytes of a frame.
     fn frame_size(self) -> usize
@@ -32,8 +43,8 @@ impl Source<'_> {
         requires { (length frame.now ≡ 4 * length_at self.device) × (4 * length_at self.device * n + 4 * length_at self.device ≤ length memory.old) }
         ensures { memory.new ≡ placed (length_at self.entry.device) n frame.now memory.old }
     {
-        let size = self.frame_size();
-        memory[size * n..size * n + size].copy_from_slice(frame);
+        let size = frame.len();
+        copy(&mut memory[size * n..size * n + size], frame);
     }
 
     // The frames from a first one on become frames of the layout.

@@ -36,11 +36,18 @@ impl Program {
                 code.unwrap_or_else(|| panic!("{from} reaches {name}, whose code is not there"));
             instance.look(code)
         });
-        // Whatever answers for its bounds, a function divides at the same places.
-        reached
-            .into_iter()
-            .map(|(instance, divisions)| (instance.function, divisions))
-            .collect()
+        // Whatever answers for its bounds, a function divides at the same places, but not always by the same
+        // number: a const parameter's is the caller's, so what each instance divides by is kept.
+        let mut functions: BTreeMap<String, Vec<Division>> = BTreeMap::new();
+        for (instance, divisions) in reached {
+            let known = functions.entry(instance.function).or_default();
+            let new: Vec<_> = divisions
+                .into_iter()
+                .filter(|it| !known.contains(it))
+                .collect();
+            known.extend(new);
+        }
+        functions
     }
 
     /// The divisions of a function and of all that it calls, each with the function that it is in.
@@ -348,6 +355,23 @@ mod tests {
         let found = program(&[library(&functions)]);
         let by = |from: &str| found.divisions(from)[0].1.by;
         assert_eq!((by("f"), by("g")), (Some(4), None));
+    }
+
+    /// `f` calls `g` with 3, with 4 and with a number that is its own: all three are told.
+    #[test]
+    fn a_function_divides_by_the_number_of_each_of_its_callers() {
+        let number = r#"{"NumOf":[64,{"Param":0}]}"#;
+        let divide = format!(r#"{{"Op2":[{{"Rem":"Unsigned"}},{{"Copy":{PLACE}}},{number}]}}"#);
+        let g = format!(r#"{{"Assign":[{PLACE},{divide}]}}"#);
+        let call = |ty: &str| {
+            let types = format!(r#"{{"types":[{ty}],"dicts":[]}}"#);
+            format!(r#"{{"Call":[{{"Fn":["g",{types}]}},[],{PLACE}]}}"#)
+        };
+        let calls = [r#"{"Const":3}"#, r#"{"Const":4}"#, r#"{"Param":0}"#].map(call);
+        let f = function("f", &[], "", &calls.join(","));
+        let found = program(&[library(&[f, function("g", &[], "", &g)])]).divisions("f");
+        let found: Vec<_> = found.iter().map(|(_, it)| it.by).collect();
+        assert_eq!(found, [None, Some(3), Some(4)]);
     }
 
     #[test]

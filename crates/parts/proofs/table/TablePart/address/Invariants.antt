@@ -6,5 +6,5 @@ use Rattle.parts.specs.Columns.{runs, columns_of, columns}
 use Rattle.parts.specs.FrameAddress.{address_in}
 use Rattle.parts.proofs.table.TablePart.address.Given as goal
 
-abbrev pub invariant-loop-run : goal.invariant-loop-run
-invariant-loop-run l = address_in (columns_of (drop l.run-index (runs l.fn.self.part))) l.left ≡ address_in (columns l.fn.self.part) l.number
+abbrev pub invariant-loop-i : goal.invariant-loop-i
+invariant-loop-i l = address_in (columns_of (drop l.i (runs l.self.part))) l.left ≡ address_in (columns l.self.part) l.number

@@ -8,7 +8,7 @@ use Rattle.parts.specs.Columns.{runs, columns_of, columns, total}
 use Rattle.parts.specs.FrameAddress.{number_in}
 use Rattle.parts.proofs.table.TablePart.number.Given as goal
 
-abbrev pub invariant-loop-run : goal.invariant-loop-run
-invariant-loop-run l =
-    (l.first + total (columns_of (drop l.run-index (runs l.fn.self.part))) ≡ frame_count l.fn.self.part)
-    × (number_in (columns_of (drop l.run-index (runs l.fn.self.part))) l.first l.block l.major l.minor ≡ number_in (columns l.fn.self.part) 0 l.block l.major l.minor)
+abbrev pub invariant-loop-i : goal.invariant-loop-i
+invariant-loop-i l =
+    (l.first + total (columns_of (drop l.i (runs l.self.part))) ≡ frame_count l.self.part)
+    × (number_in (columns_of (drop l.i (runs l.self.part))) l.first l.block l.major l.minor ≡ number_in (columns l.self.part) 0 l.block l.major l.minor)
